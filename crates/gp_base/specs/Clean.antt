@@ -1,0 +1,34 @@
+-- Lists of events that use live qubits only.
+use Rattle.std.specs.Prelude.{◌≡◌, ℕ, suc, Bool, true, false, if◌then◌else◌, not, ◌&&◌, ◌==◌, List, [], ◌∷◌, ◌++◌, length, Option, Some, None, IsSome, option_and_then}
+use Rattle.gp_base.specs.declared.event.Event.{Event}
+use Rattle.gp_base.specs.declared.event.Event.TheVariants.{Alloc, Free, MeasureFree, Measure, Reset, Gate1, Gate2, Gate3, Rotation, ResultInt, ResultBool}
+use Rattle.gp_base.specs.World.{is_live, ended}
+
+-- the flags, where the test holds
+abbrev pub where_true : Bool → List Bool → Option (List Bool)
+where_true test flags = if test then Some flags else None
+
+-- the flags after an event, where the event may come: it names only live qubits and none twice, an
+-- allocation names the next number, and what frees a qubit ends its life
+abbrev pub flags_after_event : Event → List Bool → Option (List Bool)
+flags_after_event (Alloc q) flags = where_true (q == length flags) (flags ++ true ∷ [])
+flags_after_event (Free q) flags = where_true (is_live flags q) (ended flags q)
+flags_after_event (MeasureFree q outcome) flags = where_true (is_live flags q) (ended flags q)
+flags_after_event (Measure q outcome) flags = where_true (is_live flags q) flags
+flags_after_event (Reset q) flags = where_true (is_live flags q) flags
+flags_after_event (Gate1 gate q) flags = where_true (is_live flags q) flags
+flags_after_event (Gate2 gate p q) flags = where_true (is_live flags p && is_live flags q && not (p == q)) flags
+flags_after_event (Gate3 gate p q r) flags =
+    where_true (is_live flags p && is_live flags q && is_live flags r && not (p == q) && not (p == r) && not (q == r)) flags
+flags_after_event (Rotation gate q angle) flags = where_true (is_live flags q) flags
+flags_after_event (ResultInt tag n) flags = Some flags
+flags_after_event (ResultBool tag b) flags = Some flags
+
+-- the flags after a list of events, where it is clean
+abbrev pub flags_after : List Event → List Bool → Option (List Bool)
+flags_after [] flags = Some flags
+flags_after (e ∷ es) flags = option_and_then (flags_after es) (flags_after_event e flags)
+
+-- the events are clean from these flags
+abbrev pub IsClean : List Event → List Bool → Type 0
+IsClean es flags = IsSome (flags_after es flags)

@@ -1,0 +1,5 @@
+pub mod Clean
+pub mod Outside
+pub mod Run
+pub mod Tag
+pub mod World

@@ -1,0 +1,50 @@
+//! The events of a run.
+
+use crate::tag::Tag;
+
+/// The fifteen gates. Qubits of a gate are distinct; an angle is in units of 1/65536 turn.
+#[derive(Clone, Copy, Debug, PartialEq, Eq)]
+pub enum GateName {
+    H,
+    X,
+    Y,
+    Z,
+    S,
+    Sdg,
+    T,
+    Tdg,
+    Cx,
+    Cy,
+    Cz,
+    Toffoli,
+    Rx,
+    Ry,
+    Rz,
+}
+
+/// What a run does outside itself. Qubits are numbered from 0 in the order in which they are allocated.
+#[derive(Debug, Drop)]
+pub enum Event {
+    /// The qubit begins to live.
+    Alloc(u64),
+    /// The qubit ends.
+    Free(u64),
+    /// The qubit is measured, with this outcome, and ends.
+    MeasureFree(u64, bool),
+    /// The qubit is measured, with this outcome, and lives on.
+    Measure(u64, bool),
+    /// The qubit is set to its first state.
+    Reset(u64),
+    /// A gate on one qubit.
+    Gate1(GateName, u64),
+    /// A gate on two qubits.
+    Gate2(GateName, u64, u64),
+    /// A gate on three qubits.
+    Gate3(GateName, u64, u64, u64),
+    /// A rotation of a qubit by an angle.
+    Rotation(GateName, u64, i64),
+    /// A whole number is reported under a tag.
+    ResultInt(Tag, i64),
+    /// A truth value is reported under a tag.
+    ResultBool(Tag, bool),
+}

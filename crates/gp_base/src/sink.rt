@@ -1,0 +1,30 @@
+//! What the program writes to.
+
+use crate::files::Failed;
+
+/// A target of bytes.
+///
+/// Implementations tell in the ghost member `bytes` what was written, or `None` where they don't tell.
+pub trait Sink {
+    ghost use Rattle.std.specs.Prelude.{◌≡◌, ◌<◌, ◌≤◌, ℕ, List, Option, length, take, OnErr, IfOk};
+    ghost use Rattle.gp_base.specs.Outside.{appended, Rose};
+
+    /// The bytes written, where the object tells them.
+    ghost bytes: { Self → Option (List ℕ) };
+
+    /// How many calls failed. A count stops at 2^64 - 1.
+    ghost faults: { Self → ℕ };
+
+    /// Writes bytes from the front of the piece, at least one, and answers how many.
+    ///
+    /// Fails only where the count of faults rose in this call; then nothing was written. A target that
+    /// takes nothing is a counted fault.
+    fn write(&mut self, piece: &[u8]) -> Result<usize, Failed>
+        requires { 0 < length piece.now }
+        ensures some { IfOk result (λ n. 0 < n) }
+        ensures within { IfOk result (λ n. n ≤ length piece.now) }
+        ensures written { IfOk result (λ n. bytes self.new ≡ appended (bytes self.old) (take n piece.now)) }
+        ensures unwritten { OnErr result (bytes self.new ≡ bytes self.old) }
+        ensures cause { OnErr result (Rose (faults self.old) (faults self.new)) }
+        ensures count { faults self.old ≤ faults self.new };
+}

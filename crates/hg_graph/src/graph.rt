@@ -1,0 +1,171 @@
+//! Graphs, as a list of nodes and a list of links.
+
+use crate::link::{Link, NodeId, Port};
+use crate::op::OpKind;
+use std::alloc::{AllocError, Global};
+use std::marker::Model;
+
+// A node with its op and its parent.
+#[derive(Debug, Drop)]
+struct Node {
+    op: OpKind,
+    parent: NodeId,
+}
+
+/// A program graph that grows: nodes are numbered in the order in which they are added. A contract sees
+/// it as the list of its nodes and the list of its links.
+#[derive(Debug, Drop)]
+pub struct Graph {
+    nodes: Vec<Node>,
+    links: Vec<Link>,
+}
+
+impl Model for Graph {
+    ghost use Rattle.hg_graph.specs.Graph as spec;
+
+    ghost Value = { spec.Graph };
+
+    ghost use Rattle.hg_graph.specs.NodeView.{graph_view};
+
+    ghost view = { graph_view };
+}
+
+impl Graph {
+    ghost use Rattle.std.specs.Prelude.{◌≡◌, ◌<◌, [], ◌∷◌, ◌++◌, length, slice_get, IfOk, OnOk, OnErr};
+    ghost use Rattle.std.specs.Option.{option_map, option_copied};
+    ghost use Rattle.hg_graph.specs.Op as op;
+    ghost use Rattle.hg_graph.specs.Graph.{Ports, Order, op_at, parent_at, children, feeder};
+    ghost use Rattle.hg_graph.specs.View.{op_view, number_of, port_view, link_view};
+
+    /// The `Module` alone, as its own parent.
+    pub fn new(alloc: Global) -> Result<Graph, AllocError>
+        ensures { IfOk result (λ g. g ≡ record { nodes = record { op = op.Module; parent = 0 } ∷ []; links = [] }) }
+    {
+        let mut nodes = Vec::new(alloc);
+        nodes.push(Node {
+            op: OpKind::Module,
+            parent: NodeId(0),
+        })?;
+        Ok(Graph {
+            nodes,
+            links: Vec::new(alloc),
+        })
+    }
+
+    /// Adds a node under a parent, and answers its number, which is the next one. After an error the graph
+    /// is as it was, and the op is dropped.
+    pub fn add_node(&mut self, op: OpKind, parent: NodeId) -> Result<NodeId, AllocError>
+        requires { parent.0 < length self.old.nodes }
+        ensures number { IfOk result (λ node. node.0 ≡ length self.old.nodes) }
+        ensures ok { OnOk result (self.new ≡ record self.old { nodes = self.old.nodes ++ record { op = op_view op; parent = parent.0 } ∷ [] }) }
+        ensures err { OnErr result (self.new ≡ self.old) }
+    {
+        let number = NodeId(self.nodes.len() as u64);
+        self.nodes.push(Node { op, parent })?;
+        Ok(number)
+    }
+
+    /// Adds a link from an output port to an input port. After an error the graph is as it was.
+    pub fn link(&mut self, from: Port, to: Port) -> Result<(), AllocError>
+        requires from_in { from.node.0 < length self.old.nodes }
+        requires to_in { to.node.0 < length self.old.nodes }
+        ensures ok { OnOk result (self.new ≡ record self.old { links = self.old.links ++ Ports (port_view from) (port_view to) ∷ [] }) }
+        ensures err { OnErr result (self.new ≡ self.old) }
+    {
+        self.links.push(Link::Ports(from, to))?;
+        Ok(())
+    }
+
+    /// Adds an order link: the first node fires before the second. After an error the graph is as it was.
+    pub fn order(&mut self, from: NodeId, to: NodeId) -> Result<(), AllocError>
+        requires from_in { from.0 < length self.old.nodes }
+        requires to_in { to.0 < length self.old.nodes }
+        ensures ok { OnOk result (self.new ≡ record self.old { links = self.old.links ++ Order from.0 to.0 ∷ [] }) }
+        ensures err { OnErr result (self.new ≡ self.old) }
+    {
+        self.links.push(Link::Order(from, to))?;
+        Ok(())
+    }
+
+    /// The number of nodes.
+    pub fn node_count(&self) -> u64
+        ensures { result ≡ length self.now.nodes }
+    {
+        self.nodes.len() as u64
+    }
+
+    /// The op of a node.
+    pub fn op(&self, node: NodeId) -> &OpKind
+        requires { node.0 < length self.now.nodes }
+        ensures { op_view result.now ≡ op_at self.now node.0 }
+    {
+        &self.nodes[node.0 as usize].op
+    }
+
+    /// The parent of a node.
+    pub fn parent(&self, node: NodeId) -> NodeId
+        requires { node.0 < length self.now.nodes }
+        ensures { result.0 ≡ parent_at self.now node.0 }
+    {
+        self.nodes[node.0 as usize].parent
+    }
+
+    /// The number of links.
+    pub fn link_count(&self) -> u64
+        ensures { result ≡ length self.now.links }
+    {
+        self.links.len() as u64
+    }
+
+    /// The link at place `k`, counted from 0; `None` exactly where `k` isn't less than their number.
+    pub fn link_at(&self, k: u64) -> Option<Link>
+        ensures { option_map link_view result ≡ slice_get self.now.links k }
+    {
+        self.links.get(k as usize).copied()
+    }
+
+    /// The source of the first link into an input port; `None` exactly where no link goes into it.
+    pub fn feeder(&self, to: Port) -> Option<Port>
+        ensures { option_map port_view result ≡ feeder self.now.links (port_view to) }
+    {
+        for link in &self.links {
+            if let Link::Ports(from, into) = *link {
+                if into == to {
+                    return Some(from);
+                }
+            }
+        }
+        None
+    }
+
+    /// The number of a node's children: the other nodes whose parent it is.
+    pub fn child_count(&self, node: NodeId) -> u64
+        requires { node.0 < length self.now.nodes }
+        ensures { result ≡ length (children self.now node.0) }
+    {
+        let mut count = 0;
+        for (k, child) in self.nodes.iter().enumerate() {
+            if child.parent == node && k as u64 != node.0 {
+                count += 1;
+            }
+        }
+        count
+    }
+
+    /// A node's child at place `k`, counted from 0 in rising number; `None` exactly where it has no such child.
+    pub fn child(&self, node: NodeId, k: u64) -> Option<NodeId>
+        requires { node.0 < length self.now.nodes }
+        ensures { option_map number_of result ≡ slice_get (children self.now node.0) k }
+    {
+        let mut left = k;
+        for (n, child) in self.nodes.iter().enumerate() {
+            if child.parent == node && n as u64 != node.0 {
+                if left == 0 {
+                    return Some(NodeId(n as u64));
+                }
+                left -= 1;
+            }
+        }
+        None
+    }
+}

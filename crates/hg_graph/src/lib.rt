@@ -1,0 +1,12 @@
+//! Program graphs after the HUGR specification, in the profile of this repository: a list of nodes, each
+//! with its op and its parent, and a list of links. `specs/` says what a graph is, which rules a valid
+//! one keeps and what its run is.
+#![tactic(auto)]
+
+pub mod graph;
+pub mod link;
+pub mod op;
+
+pub use graph::Graph;
+pub use link::{Link, NodeId, Port};
+pub use op::OpKind;

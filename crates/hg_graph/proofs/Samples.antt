@@ -4,7 +4,7 @@ use Rattle.gp_base.specs.declared.event.GateName.TheVariants as gate
 use Rattle.gp_base.specs.declared.event.Event.TheVariants as event
 use Rattle.gp_base.specs.Run.{Returned}
 use Rattle.gp_base.specs.World.{World, start}
-use Rattle.hg_graph.specs.Op.{H, X}
+use Rattle.hg_graph.specs.Thin.{H, X}
 use Rattle.hg_graph.specs.Graph.{op_at, parent_at, children, firing_children}
 use Rattle.hg_graph.specs.Run.{inputs, candidate, ready, perform, firings, region, run_function}
 use Rattle.hg_graph.specs.Thin.{thin_graph}

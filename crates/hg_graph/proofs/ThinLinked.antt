@@ -1,9 +1,9 @@
 -- The links of a thin graph keep the rules.
-use Rattle.std.proofs.Common.{◌≡◌, ℕ, zero, suc, ◌+◌, ◌<◌, List, [], ◌∷◌, length, map, Some, None, slice_get, refl, arith}
+use Rattle.std.proofs.Common.{◌≡◌, ℕ, zero, suc, ◌<◌, List, [], ◌∷◌, length, map, Some, slice_get, refl, arith}
 use Rattle.hg_graph.specs.Op.{PortType, ins_of, outs_of}
-use Rattle.hg_graph.specs.Graph.{op_of, op_at, links_into, links_from}
+use Rattle.hg_graph.specs.Graph.{op_of, op_at}
 use Rattle.hg_graph.specs.Rules.{InputsLinkedOnce, LinearOutputsLinkedOnce}
-use Rattle.hg_graph.specs.Thin.{ThinGate, H, X, gate_op, in_main, chain, thin_graph, ThinGraphsAreLinked}
+use Rattle.hg_graph.specs.Thin.{ThinGate, H, X, gate_op, in_main, thin_graph, ThinGraphsAreLinked}
 use Rattle.hg_graph.proofs.ThinNodes.{after_first}
 use Rattle.hg_graph.proofs.ThinLinks.{links_into-chain, links_from-chain}
 

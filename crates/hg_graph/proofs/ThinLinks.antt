@@ -1,5 +1,5 @@
 -- Look-ups in the links of a thin graph.
-use Rattle.std.proofs.Common.{◌≡◌, ◌≢◌, inl, inr, ℕ, zero, suc, ◌+◌, ◌<◌, ◌≤◌, Bool, true, false, cond, not, ◌&&◌, ◌||◌, eqb, eqb-true, eq-eqb, ne_eqb, Some, None, refl, ap, ap₂, ◌∙◌, zero-add, arith}
+use Rattle.std.proofs.Common.{◌≡◌, ◌≢◌, inl, inr, ℕ, zero, suc, ◌+◌, ◌<◌, ◌≤◌, Bool, true, false, cond, not, ◌&&◌, ◌||◌, eqb, eqb-true, eq-eqb, ne_eqb, Some, refl, ap, ap₂, ◌∙◌, zero-add, arith}
 use Rattle.std.proofs.lemmas.Bool.Decides.{eqb_tells}
 use Rattle.hg_graph.specs.Graph.{Port, feeder, links_into, links_from}
 use Rattle.hg_graph.specs.Run.{Look, has_fired, orders_kept}

@@ -1,10 +1,9 @@
 -- The nodes of a thin graph.
-use Rattle.std.proofs.Common.{◌≡◌, ℕ, zero, suc, ◌+◌, ◌<◌, ◌≤◌, Bool, true, false, not, ◌&&◌, ◌==◌, ne_eqb, List, [], ◌∷◌, ◌++◌, length, map, take, drop, filter, Option, Some, None, slice_get, refl, sym, ap, ap₂, ◌∙◌, subst, arith}
-use Rattle.std.proofs.Math.Seq.{drop-nil}
+use Rattle.std.proofs.Common.{◌≡◌, ℕ, zero, suc, ◌+◌, ◌<◌, ◌≤◌, Bool, true, not, ◌&&◌, ◌==◌, ne_eqb, List, [], ◌∷◌, ◌++◌, length, map, drop, filter, Some, slice_get, refl, ap, ap₂, ◌∙◌, arith}
 use Rattle.hg_graph.specs.Op as op
-use Rattle.hg_graph.specs.Op.{Op, PortType, ins_of, outs_of, fires}
-use Rattle.hg_graph.specs.Graph.{Node, Graph, op_of, parent_of, op_at, parent_at, numbers, children, firing_children}
-use Rattle.hg_graph.specs.Thin.{ThinGate, H, X, gate_op, in_main, chain, thin_ops, thin_graph}
+use Rattle.hg_graph.specs.Op.{Op, fires}
+use Rattle.hg_graph.specs.Graph.{op_of, parent_of, op_at, parent_at, numbers, children, firing_children}
+use Rattle.hg_graph.specs.Thin.{ThinGate, H, X, gate_op, in_main, thin_graph}
 use Rattle.hg_graph.proofs.ThinNumbers.{filter_all}
 
 -- ---- lists of ops

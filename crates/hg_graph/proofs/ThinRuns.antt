@@ -1,15 +1,15 @@
 -- The run of a thin graph.
-use Rattle.std.proofs.Common.{◌≡◌, ◌≢◌, inl, inr, ℕ, zero, suc, ◌+◌, ◌<◌, ◌≤◌, Bool, true, false, cond, eqb, eq-eqb, ne_eqb, List, [], ◌∷◌, ◌++◌, length, map, drop, Option, Some, None, is_some, slice_get, append_assoc, refl, sym, ap, ap₂, ◌∙◌, subst, arith}
+use Rattle.std.proofs.Common.{◌≡◌, ◌≢◌, inl, inr, ℕ, suc, ◌+◌, ◌<◌, ◌≤◌, Bool, true, false, cond, eq-eqb, ne_eqb, List, [], ◌∷◌, ◌++◌, length, map, drop, Some, None, is_some, slice_get, append_assoc, refl, ap, ap₂, ◌∙◌, subst, arith}
 use Rattle.std.proofs.Math.Seq.{drop-nil}
 use Rattle.std.proofs.lemmas.Bool.Decides.{eqb_tells}
 use Rattle.gp_base.specs.declared.event.Event.{Event}
 use Rattle.gp_base.specs.declared.event.Event.TheVariants as event
-use Rattle.gp_base.specs.Run.{Run, Out, Returned, go_on}
+use Rattle.gp_base.specs.Run.{Out, Returned}
 use Rattle.gp_base.specs.World.{World, next, is_live, ended, did}
 use Rattle.hg_graph.specs.Op as op
-use Rattle.hg_graph.specs.Op.{Op, PortType, ins_of}
+use Rattle.hg_graph.specs.Op.{Op, ins_of}
 use Rattle.hg_graph.specs.Graph.{Graph, op_at, children, firing_children, numbers, feeder}
-use Rattle.hg_graph.specs.Run.{Value, Qubit, State, Look, outs_at, has_fired, Fired, or_stuck, at_node, Firing, inputs, perform, firings, region, run_function}
+use Rattle.hg_graph.specs.Run.{Value, Qubit, State, outs_at, has_fired, Fired, or_stuck, at_node, Firing, perform, firings, region, run_function}
 use Rattle.hg_graph.specs.Thin.{ThinGate, H, X, gate_op, gate_name, thin_graph, thin_after, ThinGraphsRun}
 use Rattle.hg_graph.proofs.ThinNumbers.{length-numbers}
 use Rattle.hg_graph.proofs.ThinLinks.{first_port, feeder-chain}

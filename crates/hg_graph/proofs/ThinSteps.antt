@@ -1,9 +1,9 @@
 -- How a region fires where one node is ready.
-use Rattle.std.proofs.Common.{◌≡◌, ◌≢◌, inl, inr, ℕ, zero, suc, ◌+◌, ◌<◌, ◌≤◌, Bool, true, false, cond, eqb, eqb-true, List, [], ◌∷◌, length, drop, Option, Some, None, slice_index_or, ◌%◌, filter_map, refl, sym, ap, ap₂, ◌∙◌, subst, arith}
+use Rattle.std.proofs.Common.{◌≡◌, ◌≢◌, inl, inr, ℕ, zero, suc, ◌+◌, ◌<◌, ◌≤◌, Bool, true, false, cond, List, [], ◌∷◌, length, drop, Some, None, slice_index_or, ◌%◌, filter_map, refl, ap, ap₂, ◌∙◌, arith}
 use Rattle.std.proofs.lemmas.Bool.{cases_lt}
-use Rattle.gp_base.specs.Run.{Run, Out, Returned, go_on}
+use Rattle.gp_base.specs.Run.{Returned, go_on}
 use Rattle.gp_base.specs.World.{World}
-use Rattle.hg_graph.specs.Op.{Op, PortType, ins_of}
+use Rattle.hg_graph.specs.Op.{PortType, ins_of}
 use Rattle.hg_graph.specs.Graph.{Graph, op_at, numbers, firing_children, feeder}
 use Rattle.hg_graph.specs.Run.{Value, State, choose, Look, has_fired, outs_at, Fired, orders_kept, value_at, value_of, cons_both, pulled, inputs, Ready, with_inputs, candidate, ready, perform, on_world, with_picks, Firing, firings}
 use Rattle.hg_graph.specs.Thin.{chain}

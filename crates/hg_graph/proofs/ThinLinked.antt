@@ -4,7 +4,7 @@ use Rattle.hg_graph.specs.Op.{PortType, ins_of, outs_of}
 use Rattle.hg_graph.specs.Graph.{op_of, op_at}
 use Rattle.hg_graph.specs.Rules.{InputsLinkedOnce, LinearOutputsLinkedOnce}
 use Rattle.hg_graph.specs.Thin.{ThinGate, H, X, gate_op, in_main, thin_graph, ThinGraphsAreLinked}
-use Rattle.hg_graph.proofs.ThinNodes.{after_first}
+use Rattle.hg_graph.proofs.ThinNodes.{node_of, after_first}
 use Rattle.hg_graph.proofs.ThinLinks.{links_into-chain, links_from-chain}
 
 gate_in : (gate : ThinGate) (p : ℕ) → p < length (ins_of (gate_op gate)) → p ≡ 0
@@ -39,7 +39,7 @@ inputs_linked gates (suc (suc (suc zero))) p l h = absurd (omega arith)
 inputs_linked gates (suc (suc (suc (suc zero)))) p l h = absurd (omega arith)
 inputs_linked gates (suc (suc (suc (suc (suc i))))) p l h =
     let r = input_port gates i p h in
-    rw r.1 (links_into-chain (suc (suc (suc (suc i)))) 4 (suc (length gates)) (omega arith) (omega arith))
+    rw r.1 (links_into-chain (node_of i) 4 (suc (length gates)) (omega arith) (omega arith))
 
 outputs_linked : (gates : List ThinGate) → LinearOutputsLinkedOnce (thin_graph gates)
 unfolding thin_graph op_at
@@ -51,7 +51,7 @@ outputs_linked gates (suc (suc (suc (suc zero)))) zero type l e linear = links_f
 outputs_linked gates (suc (suc (suc (suc zero)))) (suc p) type l e linear = absurd cc
 outputs_linked gates (suc (suc (suc (suc (suc i))))) p type l e linear =
     let r = output_port gates i p type e in
-    rw r.1 (links_from-chain (suc (suc (suc (suc (suc i))))) 4 (suc (length gates)) (omega arith) (omega arith))
+    rw r.1 (links_from-chain (node_of (suc i)) 4 (suc (length gates)) (omega arith) (omega arith))
 
 pub thin_graphs_are_linked : ThinGraphsAreLinked
 thin_graphs_are_linked gates = (inputs_linked gates, outputs_linked gates)

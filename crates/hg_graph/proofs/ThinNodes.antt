@@ -6,6 +6,10 @@ use Rattle.hg_graph.specs.Graph.{op_of, parent_of, op_at, parent_at, numbers, ch
 use Rattle.hg_graph.specs.Thin.{ThinGate, H, X, gate_op, in_main, thin_graph}
 use Rattle.hg_graph.proofs.ThinNumbers.{filter_all}
 
+-- the number of the op at a place of the list
+abbrev pub node_of : ℕ → ℕ
+node_of i = suc (suc (suc (suc i)))
+
 -- ---- lists of ops
 
 -- the ops behind the first
@@ -31,7 +35,7 @@ in_main_fires (gate ∷ gates) (suc i) l = in_main_fires gates i (omega arith)
 -- ---- the children of `main`
 
 -- a node from the fifth on
-at_fifth : (P : ℕ → Type 0) (count : ℕ) → ((i : ℕ) → i < count → P (suc (suc (suc (suc (suc i)))))) → (n : ℕ) → 5 ≤ n → n < 5 + count → P n
+at_fifth : (P : ℕ → Type 0) (count : ℕ) → ((i : ℕ) → i < count → P (node_of (suc i))) → (n : ℕ) → 5 ≤ n → n < 5 + count → P n
 at_fifth P count h zero l b = absurd (omega arith)
 at_fifth P count h (suc zero) l b = absurd (omega arith)
 at_fifth P count h (suc (suc zero)) l b = absurd (omega arith)
@@ -50,7 +54,7 @@ behind gates = ap (numbers 5) (length_nodes (after_first gates) ∙ length-after
 child_test : (gates : List ThinGate) (n : ℕ) → 5 ≤ n → n < 5 + suc (length gates) → (parent_at (thin_graph gates) n == 1 && not (n == 1)) ≡ true
 unfolding thin_graph parent_at
 child_test gates = at_fifth (λ n. (parent_at (thin_graph gates) n == 1 && not (n == 1)) ≡ true) (suc (length gates)) (λ i l.
-    ap₂ (λ p b. p == 1 && not b) (in_main_fires gates i l).0 (ne_eqb (suc (suc (suc (suc (suc i))))) 1 (λ e. absurd (omega arith))))
+    ap₂ (λ p b. p == 1 && not b) (in_main_fires gates i l).0 (ne_eqb (node_of (suc i)) 1 (λ e. absurd (omega arith))))
 
 pub children-thin : (gates : List ThinGate) → children (thin_graph gates) 1 ≡ 2 ∷ 3 ∷ 4 ∷ numbers 5 (suc (length gates))
 unfolding children thin_graph parent_at
@@ -96,7 +100,7 @@ get_in_main [] i kind e = absurd cc
 get_in_main (first ∷ ops) zero kind e = cc
 get_in_main (first ∷ ops) (suc i) kind e = get_in_main ops i kind e
 
-pub op_at-left : (gates : List ThinGate) (i : ℕ) (kind : Op) (rest : List Op) → drop i (after_first gates) ≡ kind ∷ rest → op_at (thin_graph gates) (suc (suc (suc (suc (suc i))))) ≡ kind
+pub op_at-left : (gates : List ThinGate) (i : ℕ) (kind : Op) (rest : List Op) → drop i (after_first gates) ≡ kind ∷ rest → op_at (thin_graph gates) (node_of (suc i)) ≡ kind
 unfolding thin_graph op_at
 op_at-left gates i kind rest e = get_in_main (after_first gates) i kind (get_left (after_first gates) i kind rest e)
 

@@ -1,5 +1,5 @@
 -- The run of a thin graph.
-use Rattle.std.proofs.Common.{◌≡◌, ◌≢◌, inl, inr, ℕ, suc, ◌+◌, ◌<◌, ◌≤◌, Bool, true, false, cond, eq-eqb, ne_eqb, List, [], ◌∷◌, ◌++◌, length, map, drop, Some, None, is_some, slice_get, append_assoc, refl, ap, ap₂, ◌∙◌, subst, arith}
+use Rattle.std.proofs.Common.{◌≡◌, ◌≢◌, inl, inr, ℕ, suc, ◌+◌, ◌<◌, ◌≤◌, Bool, true, false, cond, eqb, eq-eqb, ne_eqb, List, [], ◌∷◌, ◌++◌, length, map, drop, Some, None, is_some, slice_get, append_assoc, refl, ap, ap₂, ◌∙◌, subst, arith}
 use Rattle.std.proofs.Math.Seq.{drop-nil}
 use Rattle.std.proofs.lemmas.Bool.Decides.{eqb_tells}
 use Rattle.gp_base.specs.declared.event.Event.{Event}
@@ -13,7 +13,7 @@ use Rattle.hg_graph.specs.Run.{Value, Qubit, State, outs_at, has_fired, Fired, o
 use Rattle.hg_graph.specs.Thin.{ThinGate, H, X, gate_op, gate_name, thin_graph, thin_after, ThinGraphsRun}
 use Rattle.hg_graph.proofs.ThinNumbers.{length-numbers}
 use Rattle.hg_graph.proofs.ThinLinks.{first_port, feeder-chain}
-use Rattle.hg_graph.proofs.ThinNodes.{after_first, length-after_first, children-thin, firing_children-thin, left_next, left_within, op_at-left, op_at-first}
+use Rattle.hg_graph.proofs.ThinNodes.{node_of, after_first, length-after_first, children-thin, firing_children-thin, left_next, left_within, op_at-left, op_at-first}
 use Rattle.hg_graph.proofs.ThinSteps.{InChain, ready_one, no_inputs, one_input, fires_op, one_step}
 
 -- ---- qubits
@@ -54,11 +54,14 @@ entered = record { node = 2; outs = [] } ∷ []
 -- once the next one has fired
 reaches : (g : Graph) (count node q : ℕ) (fired : List Fired) → InChain g count node (outs_at fired) → HasReached node q (record { node = node; outs = Qubit q ∷ [] } ∷ fired)
 reaches g count node q fired c = record {
-  before = λ n l b. elim (eqb_tells node n) [ inl e ↦ ap (λ b. is_some (cond b (Some (Qubit q ∷ [])) (outs_at fired n))) e.0 | inr e ↦ ap (λ b. is_some (cond b (Some (Qubit q ∷ [])) (outs_at fired n))) e.0 ∙ c.before n l (below e.1 b) ];
-  after = λ n l. ap (λ b. is_some (cond b (Some (Qubit q ∷ [])) (outs_at fired n))) (ne_eqb node n (λ e. absurd (omega arith))) ∙ c.after n (omega arith);
+  before = λ n l b. elim (eqb_tells node n) [ inl e ↦ seen n true e.0 | inr e ↦ seen n false e.0 ∙ c.before n l (below e.1 b) ];
+  after = λ n l. seen n false (ne_eqb node n (λ e. absurd (omega arith))) ∙ c.after n (omega arith);
   gave = ap (λ b. cond b (Some (Qubit q ∷ [])) (outs_at fired node)) (eq-eqb node node refl);
 }
   where
+    seen : (n : ℕ) (b : Bool) → eqb node n ≡ b → has_fired (outs_at (record { node = node; outs = Qubit q ∷ [] } ∷ fired)) n ≡ is_some (cond b (Some (Qubit q ∷ [])) (outs_at fired n))
+    seen n b e = ap (λ b. is_some (cond b (Some (Qubit q ∷ [])) (outs_at fired n))) e
+
     below : {n : ℕ} → node ≢ n → n ≤ node → n < node
     below ne l = omega arith
 
@@ -82,19 +85,19 @@ goes_in_chain gates last q fired h = record {
 
 -- ---- the firings behind the first
 
-feeder-thin : (gates : List ThinGate) (i : ℕ) → i < suc (length gates) → feeder (thin_graph gates).links (first_port (suc (suc (suc (suc (suc i)))))) ≡ Some (first_port (suc (suc (suc (suc i)))))
+feeder-thin : (gates : List ThinGate) (i : ℕ) → i < suc (length gates) → feeder (thin_graph gates).links (first_port (node_of (suc i))) ≡ Some (first_port (node_of i))
 unfolding thin_graph
-feeder-thin gates i l = feeder-chain (suc (suc (suc (suc i)))) 4 (suc (length gates)) (omega arith) (omega arith)
+feeder-thin gates i l = feeder-chain (node_of i) 4 (suc (length gates)) (omega arith) (omega arith)
 
 abbrev left_to_fire : List ThinGate → ℕ → List Fired → World → List ℕ → Out State (List Value)
 left_to_fire gates count fired w picks = firings (thin_graph gates) (fires_op (thin_graph gates)) 1 3 count fired (record { world = w; picks = picks })
 
 -- the next one fires on the qubit
-next_fires : (gates : List ThinGate) (i q count : ℕ) (kind : Op) (more : List Op) (fired : List Fired) (w v : World) (picks : List ℕ) (outs : List Value) → drop i (after_first gates) ≡ kind ∷ more → ins_of kind ≡ op.Qubit ∷ [] → HasReached (suc (suc (suc (suc i)))) q fired → perform kind (Qubit q ∷ []) w ≡ Returned outs v
-    → left_to_fire gates (suc count) fired w picks ≡ left_to_fire gates count (record { node = suc (suc (suc (suc (suc i)))); outs = outs } ∷ fired) v (drop 1 picks)
+next_fires : (gates : List ThinGate) (i q count : ℕ) (kind : Op) (more : List Op) (fired : List Fired) (w v : World) (picks : List ℕ) (outs : List Value) → drop i (after_first gates) ≡ kind ∷ more → ins_of kind ≡ op.Qubit ∷ [] → HasReached (node_of i) q fired → perform kind (Qubit q ∷ []) w ≡ Returned outs v
+    → left_to_fire gates (suc count) fired w picks ≡ left_to_fire gates count (record { node = node_of (suc i); outs = outs } ∷ fired) v (drop 1 picks)
 next_fires gates i q count kind more fired w v picks outs left one h p =
     let g = thin_graph gates in
-    let last = suc (suc (suc (suc i))) in
+    let last = node_of i in
     let within : i < suc (length gates) = subst (λ n. i < n) (length-after_first gates) (left_within (after_first gates) i kind more left) in
     let is_kind = op_at-left gates i kind more left in
     let ins = one_input g (outs_at fired) (suc last) last op.Qubit (Qubit q) (ap ins_of is_kind ∙ one) (feeder-thin gates i within) h.gave in
@@ -121,13 +124,13 @@ drop_more : (n : ℕ) (picks : List ℕ) → drop n (drop 1 picks) ≡ drop (suc
 drop_more n [] = drop-nil n
 drop_more n (pick ∷ picks) = refl
 
-rest_runs : (gates rest : List ThinGate) (i q : ℕ) (fired : List Fired) (w : World) (picks : List ℕ) → drop i (after_first gates) ≡ after_first rest → HasReached (suc (suc (suc (suc i)))) q fired → is_live w.flags q ≡ true
+rest_runs : (gates rest : List ThinGate) (i q : ℕ) (fired : List Fired) (w : World) (picks : List ℕ) → drop i (after_first gates) ≡ after_first rest → HasReached (node_of i) q fired → is_live w.flags q ≡ true
     → left_to_fire gates (suc (length rest)) fired w picks ≡ Returned [] (record { world = after_rest q rest w; picks = drop (suc (length rest)) picks })
 rest_runs gates [] i q fired w picks left h live =
     next_fires gates i q 0 op.Free [] fired w (after_rest q [] w) picks [] left refl h (free_performs q w live)
-    ∙ none_left gates (record { node = suc (suc (suc (suc (suc i)))); outs = [] } ∷ fired) (after_rest q [] w) (drop 1 picks)
+    ∙ none_left gates (record { node = node_of (suc i); outs = [] } ∷ fired) (after_rest q [] w) (drop 1 picks)
 rest_runs gates (gate ∷ rest) i q fired w picks left h live =
-    let last = suc (suc (suc (suc i))) in
+    let last = node_of i in
     let v = did (event.Gate1 (gate_name gate) q) w in
     next_fires gates i q (suc (length rest)) (gate_op gate) (after_first rest) fired w v picks (Qubit q ∷ []) left (gate_ins gate) h (gate_performs gate q w live)
     ∙ rest_runs gates rest (suc i) q (record { node = suc last; outs = Qubit q ∷ [] } ∷ fired) v (drop 1 picks) (left_next (after_first gates) i (gate_op gate) (after_first rest) left)

@@ -2,6 +2,6 @@ mod Samples
 mod ThinNumbers
 mod ThinLinks
 mod ThinNodes
-mod ThinLinked
+pub mod ThinLinked
 mod ThinSteps
-mod ThinRuns
+pub mod ThinRuns

@@ -59,7 +59,7 @@ abbrev pub ThinGraphsRun : Type 0
 ThinGraphsRun =
     (gates : List ThinGate) (w : World) (picks : List ℕ)
     → run_function (thin_graph gates) 1 [] (record { world = w; picks = picks })
-      ≡ Returned [] (record { world = thin_after gates w; picks = drop (length gates + 2) picks })
+    ≡ Returned [] (record { world = thin_after gates w; picks = drop (length gates + 2) picks })
 
 -- in a thin graph each value input port and each linear value output port has exactly one link
 abbrev pub ThinGraphsAreLinked : Type 0

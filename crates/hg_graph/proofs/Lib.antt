@@ -1,3 +1,4 @@
+pub mod Readers
 mod Samples
 mod ThinNumbers
 mod ThinLinks

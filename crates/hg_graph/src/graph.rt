@@ -1,5 +1,8 @@
 //! Graphs, as a list of nodes and a list of links.
 
+#[cfg(test)]
+mod tests;
+
 use crate::link::{Link, NodeId, Port};
 use crate::op::OpKind;
 use std::alloc::{AllocError, Global};
@@ -31,10 +34,11 @@ impl Model for Graph {
 }
 
 impl Graph {
-    ghost use Rattle.std.specs.Prelude.{◌≡◌, ◌<◌, [], ◌∷◌, ◌++◌, length, slice_get, IfOk, OnOk, OnErr};
+    ghost use Rattle.std.specs.Prelude.{◌≡◌, ◌<◌, ◌==◌, ◌&&◌, not, [], ◌∷◌, ◌++◌, length, slice_get, IfOk, OnOk, OnErr};
     ghost use Rattle.std.specs.Option.{option_map, option_copied};
     ghost use Rattle.hg_graph.specs.Op as op;
     ghost use Rattle.hg_graph.specs.Graph.{Ports, Order, op_at, parent_at, children, feeder};
+    ghost use Rattle.hg_graph.specs.NodeView.{node_view};
     ghost use Rattle.hg_graph.specs.View.{op_view, number_of, port_view, link_view};
 
     /// The `Module` alone, as its own parent.
@@ -95,19 +99,21 @@ impl Graph {
     }
 
     /// The op of a node.
+    #[tactic(auto, unfolding(crate::specs::Graph::op_at))]
     pub fn op(&self, node: NodeId) -> &OpKind
         requires { node.0 < length self.now.nodes }
         ensures { op_view result.now ≡ op_at self.now node.0 }
     {
-        &self.nodes[node.0 as usize].op
+        &self.node(node).op
     }
 
     /// The parent of a node.
+    #[tactic(auto, unfolding(crate::specs::Graph::parent_at))]
     pub fn parent(&self, node: NodeId) -> NodeId
         requires { node.0 < length self.now.nodes }
         ensures { result.0 ≡ parent_at self.now node.0 }
     {
-        self.nodes[node.0 as usize].parent
+        self.node(node).parent
     }
 
     /// The number of links.
@@ -129,43 +135,51 @@ impl Graph {
         ensures { option_map port_view result ≡ feeder self.now.links (port_view to) }
     {
         for link in &self.links {
-            if let Link::Ports(from, into) = *link {
-                if into == to {
-                    return Some(from);
-                }
+            if let Link::Ports(from, into) = *link
+                && into == to
+            {
+                return Some(from);
             }
         }
         None
     }
 
     /// The number of a node's children: the other nodes whose parent it is.
+    #[tactic(auto, unfolding(crate::specs::Graph::children))]
     pub fn child_count(&self, node: NodeId) -> u64
         requires { node.0 < length self.now.nodes }
         ensures { result ≡ length (children self.now node.0) }
     {
-        let mut count = 0;
-        for (k, child) in self.nodes.iter().enumerate() {
-            if child.parent == node && k as u64 != node.0 {
-                count += 1;
-            }
-        }
-        count
+        (0..self.node_count())
+            .filter(|n| self.is_child(NodeId(*n), node))
+            .count() as u64
     }
 
     /// A node's child at place `k`, counted from 0 in rising number; `None` exactly where it has no such child.
+    #[tactic(auto, unfolding(crate::specs::Graph::children))]
     pub fn child(&self, node: NodeId, k: u64) -> Option<NodeId>
         requires { node.0 < length self.now.nodes }
         ensures { option_map number_of result ≡ slice_get (children self.now node.0) k }
     {
-        let mut left = k;
-        for (n, child) in self.nodes.iter().enumerate() {
-            if child.parent == node && n as u64 != node.0 {
-                if left == 0 {
-                    return Some(NodeId(n as u64));
-                }
-                left -= 1;
-            }
-        }
-        None
+        (0..self.node_count())
+            .filter(|n| self.is_child(NodeId(*n), node))
+            .nth(k as usize)
+            .map(NodeId)
+    }
+
+    // The node with this number.
+    fn node(&self, node: NodeId) -> &Node
+        requires { node.0 < length self.now.nodes }
+        ensures { slice_get self.now.nodes node.0 ≡ Some (node_view result.now) }
+    {
+        &self.nodes[node.0 as usize]
+    }
+
+    // Whether a node is a child of another.
+    fn is_child(&self, node: NodeId, parent: NodeId) -> bool
+        requires { node.0 < length self.now.nodes }
+        ensures { result ≡ (parent_at self.now node.0 == parent.0 && not (node.0 == parent.0)) }
+    {
+        self.parent(node) == parent && node != parent
     }
 }

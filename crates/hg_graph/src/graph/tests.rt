@@ -1,0 +1,115 @@
+//! Tests of the readers, on the graph of a small program.
+
+ghost use Rattle.std.specs.Prelude.{◌≡◌, length, IfOk};
+
+use super::*;
+use gp_base::Name;
+use std::test::Fail;
+
+const ALLOC: NodeId = NodeId(4);
+
+const FREE: NodeId = NodeId(5);
+
+const ALLOCATED: Port = Port {
+    node: ALLOC,
+    index: 0,
+};
+
+const FREED: Port = Port {
+    node: FREE,
+    index: 0,
+};
+
+// A module with a function that allocates a qubit and frees it.
+fn qubit_graph(alloc: Global) -> Result<Graph, AllocError>
+    ensures { IfOk result (λ g. length g.nodes ≡ 6) }
+{
+    let mut graph = Graph::new(alloc)?;
+    let name = Name::new(alloc, "main")?;
+    let main = graph.add_node(OpKind::FuncDefn { name }, NodeId(0))?;
+    graph.add_node(OpKind::Input, main)?;
+    graph.add_node(OpKind::Output, main)?;
+    let source = graph.add_node(OpKind::Alloc, main)?;
+    let target = graph.add_node(OpKind::Free, main)?;
+    graph.link(
+        Port {
+            node: source,
+            index: 0,
+        },
+        Port {
+            node: target,
+            index: 0,
+        },
+    )?;
+    graph.order(source, target)?;
+    Ok(graph)
+}
+
+#[test]
+fn reads_nodes(rt: HostRuntime) -> Result<(), Fail> {
+    let graph = qubit_graph(rt.alloc())?;
+    assert_eq!(rt; graph.node_count(), 6);
+    assert!(rt; matches!(graph.op(NodeId(0)), OpKind::Module));
+    assert!(rt;
+        matches!(graph.op(NodeId(1)), OpKind::FuncDefn { name } if name.as_str() == "main")
+    );
+    assert!(rt; matches!(graph.op(NodeId(2)), OpKind::Input));
+    assert!(rt; matches!(graph.op(NodeId(3)), OpKind::Output));
+    assert!(rt; matches!(graph.op(ALLOC), OpKind::Alloc));
+    assert!(rt; matches!(graph.op(FREE), OpKind::Free));
+    for (node, parent) in [(0, 0), (1, 0), (2, 1), (3, 1), (4, 1), (5, 1)] {
+        assert_eq!(rt; graph.parent(NodeId(node)), NodeId(parent), "of {node}");
+    }
+    Ok(())
+}
+
+#[test]
+fn reads_children(rt: HostRuntime) -> Result<(), Fail> {
+    let graph = qubit_graph(rt.alloc())?;
+    for (node, count) in [(0, 1), (1, 4), (4, 0)] {
+        assert_eq!(rt; graph.child_count(NodeId(node)), count, "of {node}");
+    }
+    for (node, k, child) in [
+        (0, 0, Some(1)),
+        (0, 1, None),
+        (1, 0, Some(2)),
+        (1, 3, Some(5)),
+        (1, 4, None),
+        (4, 0, None),
+    ] {
+        assert_eq!(rt;
+            graph.child(NodeId(node), k),
+            child.map(NodeId),
+            "child {k} of {node}"
+        );
+    }
+    Ok(())
+}
+
+#[test]
+fn reads_links(rt: HostRuntime) -> Result<(), Fail> {
+    let graph = qubit_graph(rt.alloc())?;
+    assert_eq!(rt; graph.link_count(), 2);
+    assert_eq!(rt; graph.link_at(0), Some(Link::Ports(ALLOCATED, FREED)));
+    assert_eq!(rt; graph.link_at(1), Some(Link::Order(ALLOC, FREE)));
+    assert_eq!(rt; graph.link_at(2), None);
+    Ok(())
+}
+
+#[test]
+fn feeds_from_the_first_link(rt: HostRuntime) -> Result<(), Fail> {
+    let mut graph = qubit_graph(rt.alloc())?;
+    let input = Port {
+        node: NodeId(2),
+        index: 0,
+    };
+    graph.link(input, FREED)?;
+    assert_eq!(rt; graph.feeder(FREED), Some(ALLOCATED));
+    assert_eq!(rt; graph.feeder(ALLOCATED), None);
+    let second = Port {
+        node: FREE,
+        index: 1,
+    };
+    assert_eq!(rt; graph.feeder(second), None);
+    Ok(())
+}

@@ -1,0 +1,2 @@
+pub mod LastPut
+pub mod Live

@@ -1,5 +1,5 @@
 -- Lists of events that use live qubits only.
-use Rattle.std.specs.Prelude.{◌≡◌, ℕ, suc, Bool, true, false, if◌then◌else◌, not, ◌&&◌, ◌==◌, List, [], ◌∷◌, ◌++◌, length, Option, Some, None, IsSome, option_and_then}
+use Rattle.std.specs.Prelude.{Bool, true, if◌then◌else◌, not, ◌&&◌, ◌==◌, List, [], ◌∷◌, ◌++◌, length, Option, Some, None, IsSome, option_and_then}
 use Rattle.gp_base.specs.declared.event.Event.{Event}
 use Rattle.gp_base.specs.declared.event.Event.TheVariants.{Alloc, Free, MeasureFree, Measure, Reset, Gate1, Gate2, Gate3, Rotation, ResultInt, ResultBool}
 use Rattle.gp_base.specs.World.{is_live, ended}

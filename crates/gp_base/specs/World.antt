@@ -1,5 +1,5 @@
 -- The world that a run changes. The run of a source and the run of a graph change it by the same words.
-use Rattle.std.specs.Prelude.{◌≡◌, ℕ, zero, suc, Bool, true, false, if◌then◌else◌, List, [], ◌∷◌, ◌++◌, length}
+use Rattle.std.specs.Prelude.{◌≡◌, ◌<◌, ℕ, zero, suc, Bool, true, false, if◌then◌else◌, List, [], ◌∷◌, ◌++◌, length}
 use Rattle.gp_base.specs.declared.event.GateName.{GateName}
 use Rattle.gp_base.specs.declared.event.Event.{Event}
 use Rattle.gp_base.specs.declared.event.Event.TheVariants as event
@@ -52,3 +52,7 @@ free q = on_live q (λ w. Returned tt (did (event.Free q) (record w { flags = en
 -- a gate on one live qubit
 abbrev pub apply_gate : GateName → ℕ → Run World (Unit {0})
 apply_gate gate q = on_live q (λ w. Returned tt (did (event.Gate1 gate q) w))
+
+-- every live qubit is below the next number
+abbrev pub LiveBelowNext : Type 0
+LiveBelowNext = (w : World) (q : ℕ) → is_live w.flags q ≡ true → q < next w

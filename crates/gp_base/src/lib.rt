@@ -1,8 +1,13 @@
 //! What every crate of Pirtwald speaks of: names, line numbers and lists; tags, gates and the events of
+//! runs; and the outside, as files and sinks, with both of them in memory for tests.
 #![tactic(auto)]
 
 pub mod event;
+mod fault_plan;
 pub mod files;
+pub mod laws;
+pub mod memory_files;
+pub mod memory_sink;
 pub mod name;
 pub mod sequence;
 pub mod sink;
@@ -10,7 +15,12 @@ pub mod tag;
 
 pub use event::{Event, GateName};
 pub use files::{Failed, Files};
+pub use memory_files::MemoryFiles;
+pub use memory_sink::MemorySink;
 pub use name::{LineNo, Name, Names};
 pub use sequence::Sequence;
 pub use sink::Sink;
 pub use tag::Tag;
+
+#[cfg(test)]
+mod tests;

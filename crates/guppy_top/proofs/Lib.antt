@@ -1,0 +1,3 @@
+mod Pushes
+mod ReadSoFar
+mod Written

@@ -1,0 +1,5 @@
+pub mod Call
+pub mod GraphText
+pub mod Input
+pub mod Refusal
+pub mod Words

@@ -1,0 +1,11 @@
+//! The program `guppy`: compiles source texts of an integer profile of Guppy to program graphs.
+#![tactic(auto)]
+
+mod graph_text;
+mod input;
+mod output;
+mod refusal;
+mod status;
+mod words;
+
+fn main() {}

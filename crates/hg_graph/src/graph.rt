@@ -35,7 +35,7 @@ impl Model for Graph {
 
 impl Graph {
     ghost use Rattle.std.specs.Prelude.{◌≡◌, ◌<◌, ◌==◌, ◌&&◌, not, [], ◌∷◌, ◌++◌, length, slice_get, IfOk, OnOk, OnErr};
-    ghost use Rattle.std.specs.Option.{option_map, option_copied};
+    ghost use Rattle.std.specs.Option.{option_map};
     ghost use Rattle.hg_graph.specs.Op as op;
     ghost use Rattle.hg_graph.specs.Graph.{Ports, Order, op_at, parent_at, children, feeder};
     ghost use Rattle.hg_graph.specs.NodeView.{node_view};
@@ -145,7 +145,6 @@ impl Graph {
     }
 
     /// The number of a node's children: the other nodes whose parent it is.
-    #[tactic(auto, unfolding(crate::specs::Graph::children))]
     pub fn child_count(&self, node: NodeId) -> u64
         requires { node.0 < length self.now.nodes }
         ensures { result ≡ length (children self.now node.0) }
@@ -156,7 +155,6 @@ impl Graph {
     }
 
     /// A node's child at place `k`, counted from 0 in rising number; `None` exactly where it has no such child.
-    #[tactic(auto, unfolding(crate::specs::Graph::children))]
     pub fn child(&self, node: NodeId, k: u64) -> Option<NodeId>
         requires { node.0 < length self.now.nodes }
         ensures { option_map number_of result ≡ slice_get (children self.now node.0) k }

@@ -14,8 +14,11 @@ pub enum Mode {
 }
 
 /// What the words of a command line mean: a mode, and the name of the file that it reads.
+#[derive(Clone, Copy, Debug)]
 pub struct Request<'a> {
+    /// The mode.
     pub mode: Mode,
+    /// The name of the file.
     pub file: &'a str,
 }
 

@@ -1,2 +1,3 @@
+pub mod CleanWorlds
 pub mod LastPut
 pub mod Live

@@ -1,2 +1,4 @@
+pub mod CleanWorlds
 pub mod LastPut
 pub mod Live
+pub mod Pieces

@@ -1,8 +1,10 @@
 -- Lists of events that use live qubits only.
-use Rattle.std.specs.Prelude.{Bool, true, if◌then◌else◌, not, ◌&&◌, ◌==◌, List, [], ◌∷◌, ◌++◌, length, Option, Some, None, IsSome, option_and_then}
+use Rattle.std.specs.Prelude.{◌≡◌, ℕ, Bool, true, if◌then◌else◌, not, ◌&&◌, ◌==◌, List, [], ◌∷◌, ◌++◌, length, Option, Some, None, IsSome, option_and_then}
 use Rattle.gp_base.specs.declared.event.Event.{Event}
 use Rattle.gp_base.specs.declared.event.Event.TheVariants.{Alloc, Free, MeasureFree, Measure, Reset, Gate1, Gate2, Gate3, Rotation, ResultInt, ResultBool}
-use Rattle.gp_base.specs.World.{is_live, ended}
+use Rattle.gp_base.specs.declared.event.GateName.{GateName}
+use Rattle.gp_base.specs.Run.{Out, Returned, Stopped}
+use Rattle.gp_base.specs.World.{World, start, is_live, ended, allocate, free, apply_gate}
 
 -- the flags, where the test holds
 abbrev pub where_true : Bool → List Bool → Option (List Bool)
@@ -32,3 +34,19 @@ flags_after (e ∷ es) flags = option_and_then (flags_after es) (flags_after_eve
 -- the events are clean from these flags
 abbrev pub IsClean : List Event → List Bool → Type 0
 IsClean es flags = IsSome (flags_after es flags)
+
+-- the events of a world are clean from the start, and leave the world's flags
+abbrev pub IsCleanWorld : World → Type 0
+IsCleanWorld w = flags_after w.events [] ≡ Some w.flags
+
+-- the world in which a run ended
+abbrev pub world_after : {A : Type 0} → Out World A → World
+world_after (Returned a w) = w
+world_after (Stopped e w) = w
+
+-- a program starts in a clean world, and what allocates, frees or applies a gate keeps it clean
+pub record WorldsStayClean : Type 0 where
+  pub started : (turns : ℕ) (outcomes : List Bool) → IsCleanWorld (start turns outcomes)
+  pub allocated : (w : World) → IsCleanWorld w → IsCleanWorld (world_after (allocate w))
+  pub freed : (w : World) (q : ℕ) → IsCleanWorld w → IsCleanWorld (world_after (free q w))
+  pub gated : (w : World) (gate : GateName) (q : ℕ) → IsCleanWorld w → IsCleanWorld (world_after (apply_gate gate q w))

@@ -1,8 +1,15 @@
 //! Laws of the words that contracts speak.
 
+ghost use Rattle.gp_base.specs.Clean.{WorldsStayClean};
 ghost use Rattle.gp_base.specs.World.{LiveBelowNext};
 
 /// Every qubit that is live in a world is below the number that the next qubit gets.
 pub fn live_below_next()
     ensures { LiveBelowNext }
+{}
+
+/// The events of a world are clean and leave its flags: so a program starts, and what allocates, frees or applies
+/// a gate keeps it so, also where it stops.
+pub fn worlds_stay_clean()
+    ensures { WorldsStayClean }
 {}

@@ -1,5 +1,5 @@
 use crate::files::{Failed, Files};
-use crate::laws::live_below_next;
+use crate::laws::{live_below_next, worlds_stay_clean};
 use crate::memory_files::MemoryFiles;
 use crate::memory_sink::MemorySink;
 use crate::name::{LineNo, Name, Names};
@@ -46,6 +46,7 @@ fn names_are_listed(rt: HostRuntime) -> Result<(), Fail> {
     assert_eq!(rt; names.as_slice().len(), 2);
     assert_eq!(rt; LineNo(3).0, 3);
     live_below_next();
+    worlds_stay_clean();
     Ok(())
 }
 

@@ -1,0 +1,5 @@
+use Rattle.gp_base.proofs.CleanWorlds.{worlds_stay_clean_lem}
+use Rattle.gp_base.proofs.laws.worlds_stay_clean.Goals as goal
+
+pub returns : goal.returns
+returns c = worlds_stay_clean_lem

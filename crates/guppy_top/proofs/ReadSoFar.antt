@@ -2,6 +2,7 @@
 use Rattle.std.proofs.Common.{◌≡◌, ℕ, ◌+◌, ◌<◌, ◌≤◌, Bool, true, List, [], ◌∷◌, ◌++◌, length, take, Option, Some, None, refl, sym, ap, ◌∙◌, append_assoc, arith, length-append}
 use Rattle.std.proofs.lemmas.List.{append-nil, take-append-le, take_all}
 use Rattle.gp_base.specs.Outside.{prepended, IsEndOf}
+use Rattle.gp_base.proofs.Pieces.{prepended-prepended}
 use Rattle.guppy_top.specs.Input.{AreReadOf}
 
 -- the bytes so far, in front of what is left, are all that was left at the start
@@ -15,13 +16,9 @@ pub prepended-nil : (rest : Option (List ℕ)) → rest ≡ prepended [] rest
 prepended-nil None = refl
 prepended-nil (Some rest) = refl
 
-pub prepended-append : (front more : List ℕ) (rest : Option (List ℕ)) → prepended front (prepended more rest) ≡ prepended (front ++ more) rest
-prepended-append front more None = refl
-prepended-append front more (Some rest) = ap Some (sym (append_assoc front more rest))
-
 -- one more piece
 pub one_more : (front more : List ℕ) (start rest left : Option (List ℕ)) → start ≡ prepended front rest → rest ≡ prepended more left → start ≡ prepended (front ++ more) left
-one_more front more start rest left s r = s ∙ ap (prepended front) r ∙ prepended-append front more left
+one_more front more start rest left s r = s ∙ ap (prepended front) r ∙ prepended-prepended front more left
 
 -- all that may be read was read
 pub is_full : (limit : ℕ) (start rest : Option (List ℕ)) (bytes : List ℕ) → start ≡ prepended bytes rest → limit < length bytes → length bytes ≤ limit + 1 → AreReadOf start limit bytes

@@ -36,7 +36,7 @@ pub settles : (held : Holdings) (file text : List ℕ) (call : Seen) (answer : A
     → CompilesFile held file call → (call.status ≡ status.Memory → Wrote call.out call.out_after [] × Wrote call.err call.err_after [])
     → IsDue (front text) answer → Settles call answer
 settles held file text call answer e (failed cause delivered) memory due =
-    elim cause [ inl rose ↦ inl rose | inr missing ↦ absurd (not_missing held file text e missing) ]
+    elim cause [ inl rose ↦ inl (rose, delivered) | inr missing ↦ absurd (not_missing held file text e missing) ]
 settles held file text call answer e (no_memory none) memory due =
     let unwritten = memory none in
     inr (inr (record { status = inr none; out = (0, unwritten.0); err = (0, unwritten.1) }))
@@ -67,11 +67,14 @@ graph_of gates = record {
 
 -- ---- what the words mean
 
-of_mode : (mode : Mode) (file : List ℕ) → mode ≡ Compile → Some (record { mode = mode; file = file }) ≡ Some (record { mode = Compile; file = file })
-of_mode mode file e = let meant : Mode → Option Meaning = λ m. Some (record { mode = m; file = file }) in ap meant e
+-- `compile` is the only mode
+pub is_compile : (mode : Mode) → mode ≡ Compile
+is_compile Compile = refl
 
 pub means : (m : Meaning) (words : List (List ℕ)) → Some m ≡ meaning_of words → m.mode ≡ Compile → MeansCompile words m.file
-means m words e mode = sym e ∙ of_mode m.mode m.file mode
+means m words e mode =
+    let meant : Mode → Option Meaning = λ other. Some (record { mode = other; file = m.file }) in
+    sym e ∙ ap meant mode
 
 pub same_file : (m : Meaning) (words : List (List ℕ)) (file : List ℕ) → Some m ≡ meaning_of words → MeansCompile words file → m.file ≡ file
 same_file m words file e means_it = let same : Some m ≡ Some (record { mode = Compile; file = file }) = e ∙ means_it in cc

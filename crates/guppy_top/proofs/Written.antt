@@ -2,6 +2,7 @@
 use Rattle.std.proofs.Common.{◌≡◌, ℕ, ◌+◌, ◌<◌, ◌≤◌, List, [], ◌∷◌, ◌++◌, length, take, drop, Option, Some, None, refl, sym, ap, ◌∙◌, append_assoc, arith, length-drop, take-add}
 use Rattle.std.proofs.lemmas.List.{append-nil, take_all}
 use Rattle.gp_base.specs.Outside.{appended}
+use Rattle.gp_base.proofs.Pieces.{appended-more}
 use Rattle.guppy_top.specs.Call.{Wrote, WrotePart}
 
 -- the first bytes are written
@@ -14,16 +15,12 @@ pub appended-nil : (before : Option (List ℕ)) → before ≡ appended before [
 appended-nil None = refl
 appended-nil (Some bytes) = ap Some (sym (append-nil bytes))
 
-pub appended-append : (before : Option (List ℕ)) (front more : List ℕ) → appended (appended before front) more ≡ appended before (front ++ more)
-appended-append None front more = refl
-appended-append (Some bytes) front more = ap Some (append_assoc bytes front more)
-
 -- one more piece
 pub one_more : (bytes : List ℕ) (count n : ℕ) (before now after : Option (List ℕ)) (faults faults_now faults_after : ℕ)
     → WrittenSoFar bytes count before now faults faults_now → count < length bytes → n ≤ length (drop count bytes) → after ≡ appended now (take n (drop count bytes)) → faults_now ≤ faults_after
     → WrittenSoFar bytes (count + n) before after faults faults_after
 one_more bytes count n before now after faults faults_now faults_after so_far left within more rises = record {
   within = omega (arith, length-drop count bytes);
-  front = more ∙ ap (λ b. appended b (take n (drop count bytes))) so_far.front ∙ appended-append before (take count bytes) (take n (drop count bytes)) ∙ ap (appended before) (sym (take-add count n bytes));
+  front = more ∙ ap (λ b. appended b (take n (drop count bytes))) so_far.front ∙ appended-more before bytes count n;
   faults_rise = omega (arith, so_far.faults_rise);
 }

@@ -4,6 +4,7 @@ use Rattle.gp_base.specs.Outside.{appended, Rose}
 use Rattle.guppy_top.specs.declared.status.Status.{Status}
 use Rattle.guppy_top.specs.declared.status.Status.TheVariants as status
 use Rattle.guppy_top.specs.declared.refusal.Refusal.{Refusal}
+use Rattle.guppy_top.specs.declared.refusal.Refusal.TheVariants.{ReadFault}
 use Rattle.guppy_top.specs.Refusal.{refusal_text, status_of}
 
 -- between two moments a sink got this text whole, or a part from the front of it
@@ -66,6 +67,6 @@ pub record CutShort (call : Seen) (answer : Answer) : Type 0 where
 abbrev pub Delivers : Seen → Answer → Type 0
 Delivers call answer = Answered call answer ⊎ CutShort call answer
 
--- the call delivers the answer, unless a fault of reading was counted
+-- the call delivers the answer; or a fault of reading was counted, and it delivers that
 abbrev pub Settles : Seen → Answer → Type 0
-Settles call answer = Rose call.faults call.faults_after ⊎ Delivers call answer
+Settles call answer = (Rose call.faults call.faults_after × Delivers call (refused ReadFault)) ⊎ Delivers call answer

@@ -1,9 +1,9 @@
 -- Runs of small graphs, computed.
-use Rattle.std.proofs.Common.{◌≡◌, ℕ, true, false, List, [], ◌∷◌, refl}
+use Rattle.std.proofs.Common.{◌≡◌, false, [], ◌∷◌, refl}
 use Rattle.gp_base.specs.declared.event.GateName.TheVariants as gate
 use Rattle.gp_base.specs.declared.event.Event.TheVariants as event
 use Rattle.gp_base.specs.Run.{Returned}
-use Rattle.gp_base.specs.World.{World, start}
+use Rattle.gp_base.specs.World.{start}
 use Rattle.hg_graph.specs.Thin.{H, X}
 use Rattle.hg_graph.specs.Graph.{op_at, parent_at, children, firing_children}
 use Rattle.hg_graph.specs.Run.{inputs, candidate, ready, perform, firings, region, run_function}

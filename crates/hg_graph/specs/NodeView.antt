@@ -1,5 +1,5 @@
 -- What contracts see of the parts of a graph in hand.
-use Rattle.std.specs.Prelude.{ℕ, map}
+use Rattle.std.specs.Prelude.{map}
 use Rattle.hg_graph.specs.declared.graph.Node as declared
 use Rattle.hg_graph.specs.declared.graph.Graph.TheInside.{Inside}
 use Rattle.hg_graph.specs.Graph.{Node, Graph}

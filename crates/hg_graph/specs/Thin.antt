@@ -7,9 +7,9 @@ use Rattle.gp_base.specs.declared.event.Event.TheVariants as event
 use Rattle.gp_base.specs.Run.{Returned}
 use Rattle.gp_base.specs.World.{World, next}
 use Rattle.hg_graph.specs.Op as op
-use Rattle.hg_graph.specs.Graph.{Node, Port, Link, Ports, Order, Graph}
+use Rattle.hg_graph.specs.Graph.{Node, Link, Ports, Order, Graph}
 use Rattle.hg_graph.specs.Rules.{InputsLinkedOnce, LinearOutputsLinkedOnce}
-use Rattle.hg_graph.specs.Run.{State, run_function}
+use Rattle.hg_graph.specs.Run.{run_function}
 
 -- a gate of a thin graph
 pub data ThinGate : Type 0 where

@@ -4,6 +4,8 @@
 mod graph_text;
 mod input;
 mod output;
+mod real_files;
+mod real_sink;
 mod refusal;
 mod status;
 mod words;

@@ -2,6 +2,7 @@
 
 ghost use Rattle.std.specs.Prelude.{◌≡◌, false};
 ghost use Rattle.std.specs.Io.{ReadsAtMost};
+ghost use Rattle.std.specs.Io.KnownBytes.{ReadConsumes};
 
 use gp_base::{Failed, Files};
 use std::io::{ErrorKind, Read};
@@ -30,7 +31,8 @@ pub struct RealFiles<R: rt::Files + Input> {
 
 // One read, tried again where a signal interrupts it.
 fn read_retrying<S: Read>(source: &mut S, buf: &mut [u8]) -> io::Result<usize>
-    ensures { ReadsAtMost result buf.new }
+    ensures bound { ReadsAtMost result buf.new }
+    ensures bytes { ReadConsumes (S.remaining source.old) (S.remaining source.new) result buf.new }
 {
     for _ in 0..u64::MAX {
         match source.read(buf) {

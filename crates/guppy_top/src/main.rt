@@ -6,6 +6,8 @@ mod graph_text;
 mod guppy;
 mod input;
 mod output;
+mod real_files;
+mod real_sink;
 mod refusal;
 mod status;
 mod words;

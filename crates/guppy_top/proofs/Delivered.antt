@@ -16,8 +16,8 @@ pub delivered-out : (result due : Status) (n m : ℕ) (out out_after err : Optio
     → Sends result due out out_after text → Delivers (seen result n m out out_after err err) (record { status = due; out = text; err = [] })
 delivered-out result due n m out out_after err text s =
     elim s [
-      inl w ↦ inl (record { status = w.0; out = w.1; err = appended-nil err })
-    | inr cut ↦ inr (record { status = cut.0; out = cut.1; err = (0, appended-nil err) })
+      | inl w ↦ inl (record { status = w.0; out = w.1; err = appended-nil err })
+      | inr cut ↦ inr (record { status = cut.0; out = cut.1; err = (0, appended-nil err) })
     ]
 
 -- a text that was sent to `err`, with nothing to `out`
@@ -25,8 +25,8 @@ pub delivered-err : (result due : Status) (n m : ℕ) (out err err_after : Optio
     → Sends result due err err_after text → Delivers (seen result n m out out err err_after) (record { status = due; out = []; err = text })
 delivered-err result due n m out err err_after text s =
     elim s [
-      inl w ↦ inl (record { status = w.0; out = appended-nil out; err = w.1 })
-    | inr cut ↦ inr (record { status = cut.0; out = (0, appended-nil out); err = cut.1 })
+      | inl w ↦ inl (record { status = w.0; out = appended-nil out; err = w.1 })
+      | inr cut ↦ inr (record { status = cut.0; out = (0, appended-nil out); err = cut.1 })
     ]
 
 -- a status that is due, or those of what came between
@@ -42,8 +42,8 @@ pub read-out : (held : Holdings) (file : List ℕ) (result : Status) (n m : ℕ)
     → written ≡ line → Sends result status.Done out out_after written → CompilesFile held file (seen result n m out out_after err err)
 read-out held file result n m out out_after err text bytes line written are_read same due whole sent =
     read text are_read (λ answer is_due.
-        let e = due answer (subst (λ t. IsDue t answer) (sym same) is_due) ∙ ap (λ t. record { status = status.Done; out = t; err = [] }) (sym whole) in
-        subst (Delivers (seen result n m out out_after err err)) (sym e) (delivered-out result status.Done n m out out_after err written sent))
+    let e = due answer (subst (λ t. IsDue t answer) (sym same) is_due) ∙ ap (λ t. record { status = status.Done; out = t; err = [] }) (sym whole) in
+    subst (Delivers (seen result n m out out_after err err)) (sym e) (delivered-out result status.Done n m out out_after err written sent))
 
 -- a text was read, and the line of its refusal was sent to `err`
 pub read-err : (held : Holdings) (file : List ℕ) (result : Status) (n m : ℕ) (out err err_after : Option (List ℕ)) (text bytes : List ℕ) (refusal : Refusal)
@@ -51,8 +51,8 @@ pub read-err : (held : Holdings) (file : List ℕ) (result : Status) (n m : ℕ)
     → Sends result (status_of refusal) err err_after (line_of (refusal_text refusal)) → CompilesFile held file (seen result n m out out err err_after)
 read-err held file result n m out err err_after text bytes refusal are_read same due sent =
     read text are_read (λ answer is_due.
-        let e = due answer (subst (λ t. IsDue t answer) (sym same) is_due) in
-        subst (Delivers (seen result n m out out err err_after)) (sym e) (delivered-err result (status_of refusal) n m out err err_after _ sent))
+    let e = due answer (subst (λ t. IsDue t answer) (sym same) is_due) in
+    subst (Delivers (seen result n m out out err err_after)) (sym e) (delivered-err result (status_of refusal) n m out err err_after _ sent))
 
 -- a refused input has one of three statuses
 pub refused-not : (result due other : Status) (before after : Option (List ℕ)) (text : List ℕ) → Sends result due before after text → due ≡ status.Refused

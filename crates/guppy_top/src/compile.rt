@@ -18,7 +18,6 @@ use gp_lower::lower_thin;
 use gp_parse::{ThinLine, ThinLines, thin};
 use std::alloc::{AllocError, AllocFailed, Global};
 
-
 /// The most bytes that a source text has.
 pub const SOURCE_LIMIT: usize = 131_072;
 
@@ -79,10 +78,7 @@ fn fault_of(lines: &ThinLines) -> Option<Refusal>
     ensures status { IfSome result (λ refusal. status_of refusal ≡ Status.Refused) }
 {
     let Some(place) = first_discard(lines.as_slice()) else {
-        return Some(Refusal::Source(
-            LineNo(FUNCTION_LINE),
-            SourceFault::HeldAtReturn,
-        ));
+        return Some(Refusal::Source(LineNo(FUNCTION_LINE), SourceFault::HeldAtReturn));
     };
     let after = place + 1;
     if after as u64 == lines.len() {

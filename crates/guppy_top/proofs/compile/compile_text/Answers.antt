@@ -11,10 +11,10 @@ graph_line-requires c = length-thin_text _ _ _ (rw c.in-Some.is at c.in_ok-lines
 pub returns-clause-due : goal.returns-clause-due
 returns-clause-due c =
     due-thin
-      _
-      c.in-Some.lines
-      _
-      (record { within = c.if-text-gt-SOURCE_LIMIT.false; spelled = rw c.in-Some.is at c.in_ok-lines.ensures.lines })
-      c.graph_line.ensures.given_up
-      c.graph_line.ensures.held_at_return
-      c.graph_line.ensures.compiled
+    _
+    c.in-Some.lines
+    _
+    (record { within = c.if-text-gt-SOURCE_LIMIT.false; spelled = rw c.in-Some.is at c.in_ok-lines.ensures.lines })
+    c.graph_line.ensures.given_up
+    c.graph_line.ensures.held_at_return
+    c.graph_line.ensures.compiled

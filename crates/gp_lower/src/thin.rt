@@ -68,10 +68,12 @@ fn allocating(alloc: Global) -> Result<Graph, AllocError>
 /// becomes a node that takes the qubit from the node before it.
 pub fn lower_thin(alloc: Global, lines: &ThinLines) -> Result<Graph, AllocError>
     requires { AreComplete lines.now }
-    ensures graph { IfOk result (λ g. (gates : List ThinGate) → lines.now ≡ complete_lines gates → g ≡ thin_graph gates) }
+    ensures graph { IfOk result
+        (λ g. (gates : List ThinGate) → lines.now ≡ complete_lines gates → g ≡ thin_graph gates) }
     ensures inputs { IfOk result InputsLinkedOnce }
     ensures linear_outputs { IfOk result LinearOutputsLinkedOnce }
-    ensures runs { IfOk result (λ g. (gates : List ThinGate) → lines.now ≡ complete_lines gates → RunsGates gates g) }
+    ensures runs { IfOk result
+        (λ g. (gates : List ThinGate) → lines.now ≡ complete_lines gates → RunsGates gates g) }
 {
     let mut graph = allocating(alloc)?;
     let mut last = NodeId(4);

@@ -72,7 +72,8 @@ fn fault_of(lines: &ThinLines) -> Option<Refusal>
     requires { length lines.now ≤ SOURCE_LIMIT }
     ensures given_up { (gates : List ThinGate) (next : ThinLine) (more : List ThinLine)
         → lines.now ≡ spent_lines gates next more → result ≡ Some (given_up_at (8 + length gates)) }
-    ensures held_at_return { (gates : List ThinGate) → lines.now ≡ gate_lines gates → result ≡ Some (held_at_return_at 5) }
+    ensures held_at_return { (gates : List ThinGate)
+        → lines.now ≡ gate_lines gates → result ≡ Some (held_at_return_at 5) }
     ensures complete { (gates : List ThinGate) → lines.now ≡ complete_lines gates → result ≡ None }
     ensures faultless { IfNone result (AreComplete lines.now) }
     ensures status { IfSome result (λ refusal. status_of refusal ≡ Status.Refused) }
@@ -92,9 +93,12 @@ fn fault_of(lines: &ThinLines) -> Option<Refusal>
 fn graph_line(alloc: Global, lines: &ThinLines) -> Result<Vec<u8>, CompileError>
     requires { length lines.now ≤ SOURCE_LIMIT }
     ensures given_up { (gates : List ThinGate) (next : ThinLine) (more : List ThinLine)
-        → lines.now ≡ spent_lines gates next more → Makes result (refused (given_up_at (8 + length gates))) }
-    ensures held_at_return { (gates : List ThinGate) → lines.now ≡ gate_lines gates → Makes result (refused (held_at_return_at 5)) }
-    ensures compiled { (gates : List ThinGate) → lines.now ≡ complete_lines gates → Makes result (done (json (thin_graph gates))) }
+        → lines.now ≡ spent_lines gates next more
+        → Makes result (refused (given_up_at (8 + length gates))) }
+    ensures held_at_return { (gates : List ThinGate)
+        → lines.now ≡ gate_lines gates → Makes result (refused (held_at_return_at 5)) }
+    ensures compiled { (gates : List ThinGate)
+        → lines.now ≡ complete_lines gates → Makes result (done (json (thin_graph gates))) }
     ensures status { RefusesInput result }
 {
     if let Some(refusal) = fault_of(lines) {

@@ -30,10 +30,14 @@ fn compile<F: Files, O: Sink, E: Sink>(
     err: &mut E,
 ) -> Status
     ensures compiled { CompilesFile (F.held files.old) file.now
-        (seen result (F.faults files.old) (F.faults files.new) (O.bytes out.old) (O.bytes out.new) (E.bytes err.old) (E.bytes err.new)) }
-    ensures read_fault { result ≡ Status.ReadFault → Rose (F.faults files.old) (F.faults files.new) ⊎ IsMissing (F.held files.old) file.now }
-    ensures write_fault { result ≡ Status.WriteFault → Rose (O.faults out.old) (O.faults out.new) ⊎ Rose (E.faults err.old) (E.faults err.new) }
-    ensures memory { result ≡ Status.Memory → Wrote (O.bytes out.old) (O.bytes out.new) [] × Wrote (E.bytes err.old) (E.bytes err.new) [] }
+        (seen result (F.faults files.old) (F.faults files.new)
+        (O.bytes out.old) (O.bytes out.new) (E.bytes err.old) (E.bytes err.new)) }
+    ensures read_fault { result ≡ Status.ReadFault
+        → Rose (F.faults files.old) (F.faults files.new) ⊎ IsMissing (F.held files.old) file.now }
+    ensures write_fault { result ≡ Status.WriteFault
+        → Rose (O.faults out.old) (O.faults out.new) ⊎ Rose (E.faults err.old) (E.faults err.new) }
+    ensures memory { result ≡ Status.Memory
+        → Wrote (O.bytes out.old) (O.bytes out.new) [] × Wrote (E.bytes err.old) (E.bytes err.new) [] }
     ensures words { result ≢ Status.Words }
     ensures stopped { result ≢ Status.Stopped }
 {
@@ -65,7 +69,8 @@ pub fn guppy<F: Files, O: Sink, E: Sink>(
 ) -> Status
     // The words.
     ensures words { meaning_of words.now ≡ None → Delivers
-        (seen result (F.faults files.old) (F.faults files.new) (O.bytes out.old) (O.bytes out.new) (E.bytes err.old) (E.bytes err.new))
+        (seen result (F.faults files.old) (F.faults files.new)
+        (O.bytes out.old) (O.bytes out.new) (E.bytes err.old) (E.bytes err.new))
         (refused Refusal.WordsNotUnderstood) }
     ensures words_cause { result ≡ Status.Words → meaning_of words.now ≡ None }
 
@@ -73,32 +78,43 @@ pub fn guppy<F: Files, O: Sink, E: Sink>(
     ensures read_fault { result ≡ Status.ReadFault
         → Rose (F.faults files.old) (F.faults files.new) ⊎ CompilingMissing words.now (F.held files.old) }
     ensures missing { CompilingMissing words.now (F.held files.old) → Delivers
-        (seen result (F.faults files.old) (F.faults files.new) (O.bytes out.old) (O.bytes out.new) (E.bytes err.old) (E.bytes err.new))
+        (seen result (F.faults files.old) (F.faults files.new)
+        (O.bytes out.old) (O.bytes out.new) (E.bytes err.old) (E.bytes err.new))
         (refused Refusal.ReadFault) }
 
     // `compile`: the five forms of a text, of which each text has exactly one.
-    ensures too_long { (text : List ℕ) → Compiling words.now (F.held files.old) text → SOURCE_LIMIT < length text → Settles
-        (seen result (F.faults files.old) (F.faults files.new) (O.bytes out.old) (O.bytes out.new) (E.bytes err.old) (E.bytes err.new))
+    ensures too_long { (text : List ℕ)
+        → Compiling words.now (F.held files.old) text → SOURCE_LIMIT < length text → Settles
+        (seen result (F.faults files.old) (F.faults files.new)
+        (O.bytes out.old) (O.bytes out.new) (E.bytes err.old) (E.bytes err.new))
         (refused Refusal.TooLong) }
-    ensures not_built { (text : List ℕ) → Compiling words.now (F.held files.old) text → IsNotThin text → Settles
-        (seen result (F.faults files.old) (F.faults files.new) (O.bytes out.old) (O.bytes out.new) (E.bytes err.old) (E.bytes err.new))
+    ensures not_built { (text : List ℕ)
+        → Compiling words.now (F.held files.old) text → IsNotThin text → Settles
+        (seen result (F.faults files.old) (F.faults files.new)
+        (O.bytes out.old) (O.bytes out.new) (E.bytes err.old) (E.bytes err.new))
         (refused Refusal.NotBuilt) }
     ensures given_up { (text : List ℕ) (gates : List ThinGate) (next : ThinLine) (more : List ThinLine)
-        → Compiling words.now (F.held files.old) text → IsThin text (spent_lines gates next more) → Settles
-        (seen result (F.faults files.old) (F.faults files.new) (O.bytes out.old) (O.bytes out.new) (E.bytes err.old) (E.bytes err.new))
+        → Compiling words.now (F.held files.old) text → IsThin text (spent_lines gates next more)
+        → Settles
+        (seen result (F.faults files.old) (F.faults files.new)
+        (O.bytes out.old) (O.bytes out.new) (E.bytes err.old) (E.bytes err.new))
         (refused (given_up_at (8 + length gates))) }
     ensures held_at_return { (text : List ℕ) (gates : List ThinGate)
         → Compiling words.now (F.held files.old) text → IsThin text (gate_lines gates) → Settles
-        (seen result (F.faults files.old) (F.faults files.new) (O.bytes out.old) (O.bytes out.new) (E.bytes err.old) (E.bytes err.new))
+        (seen result (F.faults files.old) (F.faults files.new)
+        (O.bytes out.old) (O.bytes out.new) (E.bytes err.old) (E.bytes err.new))
         (refused (held_at_return_at 5)) }
     ensures compiled { (text : List ℕ) (gates : List ThinGate)
-        → Compiling words.now (F.held files.old) text → IsThin text (complete_lines gates) → (g : Graph) × IsGraphOf gates g × Settles
-        (seen result (F.faults files.old) (F.faults files.new) (O.bytes out.old) (O.bytes out.new) (E.bytes err.old) (E.bytes err.new))
+        → Compiling words.now (F.held files.old) text → IsThin text (complete_lines gates)
+        → (g : Graph) × IsGraphOf gates g × Settles
+        (seen result (F.faults files.old) (F.faults files.new)
+        (O.bytes out.old) (O.bytes out.new) (E.bytes err.old) (E.bytes err.new))
         (done (json g)) }
 
     // `compile` over any files, also such as don't tell their contents.
     ensures any_files { (file : List ℕ) → MeansCompile words.now file → CompilesFile (F.held files.old) file
-        (seen result (F.faults files.old) (F.faults files.new) (O.bytes out.old) (O.bytes out.new) (E.bytes err.old) (E.bytes err.new)) }
+        (seen result (F.faults files.old) (F.faults files.new)
+        (O.bytes out.old) (O.bytes out.new) (E.bytes err.old) (E.bytes err.new)) }
 
     // Writing and memory.
     ensures write_fault { result ≡ Status.WriteFault

@@ -26,7 +26,8 @@ pub fn write_all<S: Sink>(sink: &mut S, bytes: &[u8]) -> Result<(), Failed>
 /// Writes a text, and answers the status that is due then, or `WriteFault`.
 pub fn send<S: Sink>(sink: &mut S, text: &[u8], due: Status) -> Status
     ensures sent { Sends result due (S.bytes sink.old) (S.bytes sink.new) text.now }
-    ensures fault { (result ≡ due) ⊎ ((result ≡ Status.WriteFault) × Rose (S.faults sink.old) (S.faults sink.new)) }
+    ensures fault { (result ≡ due)
+        ⊎ ((result ≡ Status.WriteFault) × Rose (S.faults sink.old) (S.faults sink.new)) }
 {
     match write_all(sink, text) {
         Ok(()) => due,
@@ -36,7 +37,8 @@ pub fn send<S: Sink>(sink: &mut S, text: &[u8], due: Status) -> Status
 
 /// Writes the line of a refusal, and answers its status. `Memory` writes nothing.
 pub fn refuse<S: Sink>(alloc: Global, sink: &mut S, refusal: Refusal) -> Status
-    ensures sent { Sends result (status_of refusal) (S.bytes sink.old) (S.bytes sink.new) (line_of (refusal_text refusal)) }
+    ensures sent { Sends result (status_of refusal)
+        (S.bytes sink.old) (S.bytes sink.new) (line_of (refusal_text refusal)) }
     ensures write_fault { result ≡ Status.WriteFault → Rose (S.faults sink.old) (S.faults sink.new) }
     ensures memory { result ≡ Status.Memory → Wrote (S.bytes sink.old) (S.bytes sink.new) [] }
 {

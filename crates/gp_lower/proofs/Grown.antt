@@ -4,9 +4,9 @@ use Rattle.std.proofs.lemmas.List.{take_more, length-take-le, take_all}
 use Rattle.gp_parse.specs.declared.thin_text.ThinLine.{ThinLine}
 use Rattle.gp_parse.specs.declared.thin_text.ThinLine.TheVariants as line
 use Rattle.hg_graph.specs.Graph.{Node, Link, Ports, Order, Graph}
-use Rattle.hg_graph.specs.Thin.{ThinGate, H, X, gate_op, in_main, chain, thin_ops, thin_graph}
+use Rattle.hg_graph.specs.Thin.{ThinGate, H, X, gate_op, in_main, chain, thin_graph}
 use Rattle.gp_lower.specs.Growing.{grown}
-use Rattle.gp_lower.specs.Thin.{line_op, gate_line, gate_lines, complete_lines, AreComplete}
+use Rattle.gp_lower.specs.Thin.{line_op, complete_lines, AreComplete}
 
 -- the two links from one node to another
 abbrev pub step : ℕ → ℕ → List Link
@@ -69,7 +69,7 @@ grows items k x old new last within was at nodes links =
     let there : length (grown lines).nodes ≡ suc (4 + length lines) = omega (arith, length-grown lines) in
     let n : new.nodes ≡ (grown (lines ++ y ∷ [])).nodes = nodes ∙ ap (λ g. g.nodes ++ in_main (line_op y) ∷ []) was ∙ sym (nodes-grown lines y) in
     let l : new.links ≡ (grown (lines ++ y ∷ [])).links =
-        links ∙ rw (was, here) (ap (λ m. (grown lines).links ++ step (4 + length lines) m) there) ∙ sym (links-grown lines y) in
+    links ∙ rw (was, here) (ap (λ m. (grown lines).links ++ step (4 + length lines) m) there) ∙ sym (links-grown lines y) in
     rw more (graph-is new (grown (lines ++ y ∷ [])) n l)
 
 -- after all lines the graph is the thin one

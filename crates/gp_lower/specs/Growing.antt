@@ -1,5 +1,5 @@
 -- The graph of a thin text while it grows.
-use Rattle.std.specs.Prelude.{ℕ, List, [], ◌∷◌, length, map, codes}
+use Rattle.std.specs.Prelude.{List, ◌∷◌, length, map, codes}
 use Rattle.gp_parse.specs.declared.thin_text.ThinLine.{ThinLine}
 use Rattle.hg_graph.specs.Op as op
 use Rattle.hg_graph.specs.Graph.{Graph}

@@ -38,4 +38,4 @@ abbrev pub RunsGates : List ThinGate → Graph → Type 0
 RunsGates gates g =
     (w : World) (picks : List ℕ)
     → run_function g 1 [] (record { world = w; picks = picks })
-      ≡ Returned [] (record { world = thin_after gates w; picks = drop (length gates + 2) picks })
+    ≡ Returned [] (record { world = thin_after gates w; picks = drop (length gates + 2) picks })

@@ -8,6 +8,9 @@ ghost use Rattle.hg_graph.specs.Rules.{InputsLinkedOnce, LinearOutputsLinkedOnce
 ghost use Rattle.hg_graph.specs.View.{op_view};
 ghost use Rattle.hg_graph.specs.Thin.{ThinGate, in_main, thin_graph};
 
+#[cfg(test)]
+mod tests;
+
 use gp_base::Name;
 use gp_parse::{ThinLine, ThinLines};
 use hg_graph::{Graph, NodeId, OpKind, Port};

@@ -1,6 +1,5 @@
-use Rattle.std.proofs.Common.{◌≡◌, ◌+◌, ◌∙◌, ap, subst, sym, length, arith}
+use Rattle.std.proofs.Common.{◌≡◌, ◌+◌, ◌∙◌, subst, sym, length}
 use Rattle.hg_graph.specs.Rules.{InputsLinkedOnce, LinearOutputsLinkedOnce}
-use Rattle.hg_graph.specs.Thin.{in_main}
 use Rattle.hg_graph.proofs.ThinLinked.{thin_graphs_are_linked}
 use Rattle.hg_graph.proofs.ThinRuns.{thin_graphs_run}
 use Rattle.gp_lower.specs.Thin.{RunsGates}

@@ -8,6 +8,8 @@ mod input;
 mod output;
 mod refusal;
 mod status;
+#[cfg(test)]
+mod tests;
 mod words;
 
 fn main() {}

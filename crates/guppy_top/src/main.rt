@@ -10,6 +10,8 @@ mod real_files;
 mod real_sink;
 mod refusal;
 mod status;
+#[cfg(test)]
+mod tests;
 mod words;
 
 use gp_base::{Name, Names};

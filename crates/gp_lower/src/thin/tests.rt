@@ -1,3 +1,5 @@
+//! Tests of the graphs of thin texts, read node by node and link by link.
+
 use super::*;
 use gp_base::Sequence;
 use hg_graph::Link;

@@ -1,13 +1,15 @@
 -- The text of events and of a run's end.
-use Rattle.std.specs.Prelude.{ℕ, Bool, if◌then◌else◌, List, [], ◌∷◌, ◌++◌, flat_map, codes, decimal}
+use Rattle.std.specs.Prelude.{◌≡◌, ℕ, Bool, if◌then◌else◌, List, [], ◌∷◌, ◌++◌, All, map, flat_map, codes, decimal}
 use Rattle.std.specs.Fmt.{signed_decimal}
 use Rattle.std.specs.List.{join_with_byte}
+use Rattle.std.specs.Str.Lines.{lines}
 use Rattle.gp_base.specs.declared.event.End.{End}
 use Rattle.gp_base.specs.declared.event.End.TheVariants.{Returned, TurnsUsed, OutcomesUsed, DivisionByZero}
 use Rattle.gp_base.specs.declared.event.Event.{Event}
 use Rattle.gp_base.specs.declared.event.Event.TheVariants.{Alloc, Free, MeasureFree, Measure, Reset, Gate1, Gate2, Gate3, Rotation, ResultInt, ResultBool}
 use Rattle.gp_base.specs.declared.event.GateName.{GateName}
 use Rattle.gp_base.specs.declared.event.GateName.TheVariants.{H, X, Y, Z, S, Sdg, T, Tdg, Cx, Cy, Cz, Toffoli, Rx, Ry, Rz}
+use Rattle.gp_base.specs.Tag.{IsTag}
 
 -- the name of a gate
 abbrev pub gate_text : GateName → List ℕ
@@ -67,3 +69,14 @@ end_text DivisionByZero = codes "end division"
 -- what is told of a run: the line of each event in order, and the line of its end
 abbrev pub trace : List Event → End → List ℕ
 trace events end = flat_map event_line events ++ end_text end ++ codes "\n"
+
+-- a result has a valid tag; other events have no tag
+abbrev pub HasValidTag : Event → Type 0
+HasValidTag (ResultInt tag n) = IsTag tag
+HasValidTag (ResultBool tag truth) = IsTag tag
+HasValidTag _ = Unit {0}
+
+-- the lines of a trace are the joined words of each event in order, and then the text of the end
+abbrev pub TraceIsLines : Type 0
+TraceIsLines = (events : List Event) (end : End) → All HasValidTag events
+    → lines (trace events end) ≡ map (λ event. joined (event_words event)) events ++ end_text end ∷ []

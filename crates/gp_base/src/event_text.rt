@@ -1,6 +1,6 @@
 //! The text of events and of a run's end.
 
-ghost use Rattle.std.specs.Prelude.{◌≡◌, ◌<◌, ◌≤◌, ◌+◌, ◌∷◌, ◌++◌, length, take, decimal};
+ghost use Rattle.std.specs.Prelude.{◌≡◌, ◌<◌, ◌≤◌, ◌+◌, ◌++◌, length, take, codes, decimal};
 ghost use Rattle.std.specs.Fmt.{signed_decimal};
 ghost use Rattle.gp_base.specs.EventText.{gate_text, outcome_text, truth_text, event_words, joined, event_line, end_text};
 
@@ -8,30 +8,34 @@ use crate::event::{End, Event, GateName};
 use itoa::Buffer;
 use std::marker::Model;
 
+/// The room, in bytes, in which every line of an event fits.
+pub const LINE_ROOM: usize = 320;
+
 // The front of a line. A contract sees it as its bytes.
 #[derive(Drop)]
 struct Line {
-    bytes: [u8; 320],
+    bytes: [u8; LINE_ROOM],
     len: usize,
 }
 
 impl Model for Line {
     ghost use Rattle.std.specs.Prelude.{◌≤◌, ℕ, List, take};
+    ghost use Rattle.gp_base.specs.declared.event_text.TheConstants.{LINE_ROOM};
 
     ghost Value = { List ℕ };
 
     ghost view = { λ line. take line.len line.bytes };
 
-    ghost invariant = { λ line. line.len ≤ 320 };
+    ghost invariant = { λ line. line.len ≤ LINE_ROOM };
 }
 
 impl Line {
     // A line that begins with a word.
     fn new(word: &[u8]) -> Line
-        requires { length word.now ≤ 320 }
+        requires { length word.now ≤ LINE_ROOM }
         ensures { result ≡ word.now }
     {
-        let mut bytes = [0; 320];
+        let mut bytes = [0; LINE_ROOM];
         bytes[..word.len()].copy_from_slice(word);
         Line {
             bytes,
@@ -41,7 +45,7 @@ impl Line {
 
     // With more bytes at its end.
     fn push(&mut self, piece: &[u8])
-        requires { length self.old + length piece.now ≤ 320 }
+        requires { length self.old + length piece.now ≤ LINE_ROOM }
         ensures { self.new ≡ self.old ++ piece.now }
     {
         let end = self.len + piece.len();
@@ -51,8 +55,8 @@ impl Line {
 
     // With a blank and a word at its end.
     fn word(mut self, word: &[u8]) -> Line
-        requires { length self + length word.now < 320 }
-        ensures { result ≡ self ++ 32 ∷ word.now }
+        requires { length self + length word.now < LINE_ROOM }
+        ensures { result ≡ self ++ codes " " ++ word.now }
     {
         self.push(b" ");
         self.push(word);
@@ -61,8 +65,8 @@ impl Line {
 
     // With a blank and a qubit's number at its end.
     fn qubit(self, qubit: u64) -> Line
-        requires { length self + 20 < 320 }
-        ensures text { result ≡ self ++ 32 ∷ decimal qubit }
+        requires { length self + 20 < LINE_ROOM }
+        ensures text { result ≡ self ++ codes " " ++ decimal qubit }
         ensures short { length result ≤ length self + 21 }
     {
         self.word(Buffer::new().format(qubit).as_bytes())
@@ -70,8 +74,8 @@ impl Line {
 
     // With a blank and a whole number at its end.
     fn number(self, n: i64) -> Line
-        requires { length self + 20 < 320 }
-        ensures text { result ≡ self ++ 32 ∷ signed_decimal n }
+        requires { length self + 20 < LINE_ROOM }
+        ensures text { result ≡ self ++ codes " " ++ signed_decimal n }
         ensures short { length result ≤ length self + 21 }
     {
         self.word(Buffer::new().format(n).as_bytes())
@@ -121,7 +125,7 @@ fn truth_text(truth: bool) -> &'static [u8]
 // The words of an event.
 fn event_words(event: &Event) -> Line
     ensures text { result ≡ joined (event_words event.now) }
-    ensures short { length result < 320 }
+    ensures short { length result < LINE_ROOM }
 {
     match event {
         Event::Alloc(qubit) => Line::new(b"alloc").qubit(*qubit),
@@ -153,9 +157,9 @@ fn event_words(event: &Event) -> Line
 
 /// Writes the event's line, with its line feed, at the front of `buf`, and answers its length in bytes. Takes no
 /// memory, and always succeeds.
-pub fn event_text(event: &Event, buf: &mut [u8; 320]) -> usize
+pub fn event_text(event: &Event, buf: &mut [u8; LINE_ROOM]) -> usize
     ensures len { result ≡ length (event_line event.now) }
-    ensures fits { result ≤ 320 }
+    ensures fits { result ≤ LINE_ROOM }
     ensures text { take result buf.new ≡ event_line event.now }
 {
     let mut line = event_words(event);

@@ -2,3 +2,4 @@ pub mod CleanWorlds
 pub mod LastPut
 pub mod Live
 pub mod Pieces
+pub mod TraceLines

@@ -1,4 +1,5 @@
 pub mod Clean
+pub mod EventText
 pub mod FaultPlan
 pub mod Outside
 pub mod Run

@@ -1,5 +1,6 @@
-//! The events of a run.
+//! The events of a run, and how it ends.
 
+use crate::sequence::Sequence;
 use crate::tag::Tag;
 
 /// The fifteen gates. Qubits of a gate are distinct; an angle is in units of 1/65536 turn.
@@ -47,4 +48,21 @@ pub enum Event {
     ResultInt(Tag, i64),
     /// A truth value is reported under a tag.
     ResultBool(Tag, bool),
+}
+
+/// A list of events. A contract sees it as the list of its events. `Events::new` takes no memory; a `push` that is
+/// refused drops its event and leaves the list as it was.
+pub type Events = Sequence<Event>;
+
+/// How a run ends.
+#[derive(Clone, Copy, Debug, PartialEq, Eq)]
+pub enum End {
+    /// The run returns.
+    Returned,
+    /// A loop or a call needs a turn, and no turn is left.
+    TurnsUsed,
+    /// A measurement needs an outcome, and no outcome is left.
+    OutcomesUsed,
+    /// A number is divided by zero.
+    DivisionByZero,
 }

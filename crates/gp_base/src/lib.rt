@@ -1,8 +1,9 @@
 //! What every crate of Pirtwald speaks of: names, line numbers and lists; tags, gates and the events of
-//! runs; and the outside, as files and sinks, with both of them in memory for tests.
+//! runs, with their text; and the outside, as files and sinks, with both of them in memory for tests.
 #![tactic(auto)]
 
 pub mod event;
+pub mod event_text;
 mod fault_plan;
 pub mod files;
 pub mod laws;
@@ -13,12 +14,12 @@ pub mod sequence;
 pub mod sink;
 pub mod tag;
 
-pub use event::{Event, GateName};
+pub use event::{End, Event, Events, GateName};
 pub use files::{Failed, Files};
 pub use memory_files::MemoryFiles;
 pub use memory_sink::MemorySink;
 pub use name::{LineNo, Name, Names};
-pub use sequence::Sequence;
+pub use sequence::{Sequence, TextBytes};
 pub use sink::Sink;
 pub use tag::Tag;
 

@@ -12,6 +12,9 @@ pub struct Sequence<T> {
     items: Vec<T>,
 }
 
+/// A list of bytes, as of a text that grows.
+pub type TextBytes = Sequence<u8>;
+
 impl<T> Model for Sequence<T> {
     ghost use Rattle.std.specs.Prelude.{List};
     ghost use Rattle.std.specs.Coded.{coded_list};

@@ -1,9 +1,11 @@
+use crate::event::{End, Event, Events, GateName};
+use crate::event_text::{end_text, event_text};
 use crate::files::{Failed, Files};
-use crate::laws::{live_below_next, worlds_stay_clean};
+use crate::laws::{live_below_next, trace_is_lines, worlds_stay_clean};
 use crate::memory_files::MemoryFiles;
 use crate::memory_sink::MemorySink;
 use crate::name::{LineNo, Name, Names};
-use crate::sequence::Sequence;
+use crate::sequence::{Sequence, TextBytes};
 use crate::sink::Sink;
 use crate::tag::Tag;
 use std::test::Fail;
@@ -47,6 +49,7 @@ fn names_are_listed(rt: HostRuntime) -> Result<(), Fail> {
     assert_eq!(rt; LineNo(3).0, 3);
     live_below_next();
     worlds_stay_clean();
+    trace_is_lines();
     Ok(())
 }
 
@@ -97,5 +100,86 @@ fn sinks_fill_up(rt: HostRuntime) -> Result<(), Fail> {
     assert_eq!(rt; sink.bytes(), b"abcde".as_slice());
     assert_eq!(rt; sink.write(b"f"), Err(Failed));
     assert_eq!(rt; sink.faults(), 2);
+    Ok(())
+}
+
+#[test]
+fn events_have_lines(rt: HostRuntime) -> Result<(), Fail> {
+    let tag = Tag::new(rt.alloc(), b"c 0")?.ok_or("no tag")?;
+    for (event, line) in [
+        (Event::Alloc(0), "alloc 0\n"),
+        (
+            Event::Free(18446744073709551615),
+            "free 18446744073709551615\n",
+        ),
+        (Event::MeasureFree(7, true), "measure_free 7 1\n"),
+        (Event::Measure(10, false), "measure 10 0\n"),
+        (Event::Reset(3), "reset 3\n"),
+        (Event::Gate1(GateName::H, 4), "h 4\n"),
+        (Event::Gate2(GateName::Cx, 1, 2), "cx 1 2\n"),
+        (Event::Gate3(GateName::Toffoli, 2, 0, 1), "toffoli 2 0 1\n"),
+        (Event::Rotation(GateName::Rz, 5, -16384), "rz 5 -16384\n"),
+        (Event::ResultBool(tag, true), "result c 0 True\n"),
+    ] {
+        let mut buf = [b'#'; 320];
+        let len = event_text(&event, &mut buf);
+        assert_eq!(rt; &buf[..len], line.as_bytes(), "for {line}");
+    }
+    Ok(())
+}
+
+#[test]
+fn gates_have_names(rt: HostRuntime) {
+    for (gate, line) in [
+        (GateName::X, "x 0\n"),
+        (GateName::Y, "y 0\n"),
+        (GateName::Z, "z 0\n"),
+        (GateName::S, "s 0\n"),
+        (GateName::Sdg, "sdg 0\n"),
+        (GateName::T, "t 0\n"),
+        (GateName::Tdg, "tdg 0\n"),
+        (GateName::Cy, "cy 0\n"),
+        (GateName::Cz, "cz 0\n"),
+        (GateName::Rx, "rx 0\n"),
+        (GateName::Ry, "ry 0\n"),
+    ] {
+        let mut buf = [b'#'; 320];
+        let len = event_text(&Event::Gate1(gate, 0), &mut buf);
+        assert_eq!(rt; &buf[..len], line.as_bytes(), "for {line}");
+    }
+}
+
+#[test]
+fn the_longest_line_fits(rt: HostRuntime) -> Result<(), Fail> {
+    let tag = Tag::new(rt.alloc(), &[b'a'; 255])?.ok_or("no tag")?;
+    let mut buf = [b'#'; 320];
+    let len = event_text(&Event::ResultInt(tag, -9223372036854775808), &mut buf);
+    assert_eq!(rt; len, 284);
+    assert_eq!(rt; &buf[..7], b"result ".as_slice());
+    assert_eq!(rt; &buf[7..262], [b'a'; 255].as_slice());
+    assert_eq!(rt; &buf[262..284], b" -9223372036854775808\n".as_slice());
+    Ok(())
+}
+
+#[test]
+fn ends_have_texts(rt: HostRuntime) {
+    for (end, text) in [
+        (End::Returned, "end return"),
+        (End::TurnsUsed, "end turns"),
+        (End::OutcomesUsed, "end outcomes"),
+        (End::DivisionByZero, "end division"),
+    ] {
+        assert_eq!(rt; end_text(end), text);
+    }
+}
+
+#[test]
+fn events_and_bytes_are_listed(rt: HostRuntime) -> Result<(), Fail> {
+    let mut events = Events::new(rt.alloc());
+    events.push(Event::Alloc(0))?;
+    assert_eq!(rt; events.len(), 1);
+    let mut bytes = TextBytes::new(rt.alloc());
+    bytes.push(b'h')?;
+    assert_eq!(rt; bytes.as_slice(), b"h".as_slice());
     Ok(())
 }

@@ -1,2 +1,4 @@
 pub mod Compact
+pub mod Pieces
 pub mod Pushes
+pub mod Turns

@@ -1,1 +1,4 @@
+pub mod Answers
+pub mod Ends
 pub mod GraphText
+pub mod Reading

@@ -1,6 +1,13 @@
 //! The text of a program graph, in compact JSON: written, and read back.
 #![tactic(auto)]
 
+mod fault;
+mod links;
+mod nodes;
+mod parts;
+mod reading;
 mod writing;
 
+pub use fault::JsonFault;
+pub use reading::{MAX_TEXT_BYTES, read};
 pub use writing::write;

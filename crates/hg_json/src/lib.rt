@@ -2,6 +2,7 @@
 #![tactic(auto)]
 
 mod fault;
+mod laws;
 mod links;
 mod nodes;
 mod parts;
@@ -9,5 +10,6 @@ mod reading;
 mod writing;
 
 pub use fault::JsonFault;
+pub use laws::written_graphs_read_back;
 pub use reading::{MAX_TEXT_BYTES, read};
 pub use writing::write;

@@ -17,8 +17,10 @@ pub loop-k-preserved : goal.loop-k-preserved
 loop-k-preserved c =
     let total : c.node_count.result ≡ length c.args.graph.nodes = c.node_count.ensures ∙ ap length c.loop-k.invariant.0 in
     let e = c.in_ok-add_link.ensures in
-    rw e (c.loop-k.invariant.0,
-    goes_on (link_of (length c.args.graph.nodes)) BadLink c.loop-k.graph.links c.args.edges.now c.loop-k.k _ c.loop-k.invariant.1 c.index-edges-k.result (link_view c.in_ok-link.link) c.loop-k-test.true c.index-edges-k.is (rw total at c.in_ok-link.ensures.answers))
+    rw e (
+      c.loop-k.invariant.0,
+      goes_on (link_of (length c.args.graph.nodes)) BadLink c.loop-k.graph.links c.args.edges.now c.loop-k.k _ c.loop-k.invariant.1 c.index-edges-k.result (link_view c.in_ok-link.link) c.loop-k-test.true c.index-edges-k.is (rw total at c.in_ok-link.ensures.answers),
+    )
 
 pub returns : goal.returns
 returns c =

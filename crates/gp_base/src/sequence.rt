@@ -56,6 +56,13 @@ impl<T> Sequence<T> {
     {
         self.items.as_slice()
     }
+
+    /// The items in order, in a `Vec` of their own.
+    pub fn into_vec(self) -> Vec<T>
+        ensures { result.items ≡ self }
+    {
+        self.items
+    }
 }
 
 impl<T: Drop> Sequence<T> {

@@ -5,15 +5,21 @@ mod tests;
 
 use crate::link::{Link, NodeId, Port};
 use crate::op::OpKind;
+use gp_base::Sequence;
 use std::alloc::{AllocError, Global};
 use std::marker::Model;
 
-// A node with its op and its parent.
+/// A node of a graph.
 #[derive(Debug, Drop)]
-struct Node {
-    op: OpKind,
-    parent: NodeId,
+pub struct Node {
+    /// What the node does.
+    pub op: OpKind,
+    /// The node under which it stands; the root is its own parent.
+    pub parent: NodeId,
 }
+
+/// A list of nodes.
+pub type Nodes = Sequence<Node>;
 
 /// A program graph that grows: nodes are numbered in the order in which they are added. A contract sees
 /// it as the list of its nodes and the list of its links.
@@ -34,7 +40,7 @@ impl Model for Graph {
 }
 
 impl Graph {
-    ghost use Rattle.std.specs.Prelude.{◌≡◌, ◌<◌, ◌==◌, ◌&&◌, not, [], ◌∷◌, ◌++◌, length, slice_get, IfOk, OnOk, OnErr};
+    ghost use Rattle.std.specs.Prelude.{◌≡◌, ◌<◌, ◌==◌, ◌&&◌, not, [], ◌∷◌, ◌++◌, length, slice_get, map, All, IfOk, OnOk, OnErr};
     ghost use Rattle.std.specs.Option.{option_map};
     ghost use Rattle.hg_graph.specs.Op as op;
     ghost use Rattle.hg_graph.specs.Graph.{Ports, Order, op_at, parent_at, children, feeder};
@@ -52,6 +58,19 @@ impl Graph {
         })?;
         Ok(Graph {
             nodes,
+            links: Vec::new(alloc),
+        })
+    }
+
+    /// The graph with these nodes, numbered by their places, and no links. The first node may have any op,
+    /// and a parent may have a greater number than its child. When refused, the nodes are dropped.
+    pub fn of_nodes(alloc: Global, nodes: Nodes) -> Result<Graph, AllocError>
+        requires some { 0 < length nodes }
+        requires parents_in { All (λ node. node.parent.0 < length nodes) nodes }
+        ensures { IfOk result (λ g. g ≡ record { nodes = map node_view nodes; links = [] }) }
+    {
+        Ok(Graph {
+            nodes: nodes.into_vec(),
             links: Vec::new(alloc),
         })
     }

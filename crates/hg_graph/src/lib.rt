@@ -8,7 +8,7 @@ pub mod laws;
 pub mod link;
 pub mod op;
 
-pub use graph::Graph;
+pub use graph::{Graph, Node, Nodes};
 pub use laws::{thin_graphs_are_linked, thin_graphs_run};
 pub use link::{Link, NodeId, Port};
 pub use op::OpKind;

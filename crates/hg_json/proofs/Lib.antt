@@ -1,0 +1,6 @@
+pub mod Back
+pub mod Compact
+pub mod Pieces
+pub mod Plain
+pub mod Pushes
+pub mod Turns

@@ -1,0 +1,75 @@
+-- Writing the text of a graph.
+use Rattle.std.proofs.Common.{◌≡◌, ℕ, suc, ◌+◌, ◌<◌, ◌≤◌, List, [], ◌∷◌, ◌++◌, length, drop, get_or, map, nat_lt, Bool, true, false, Option, Some, None, refl, sym, ap, ◌∙◌, append_assoc, arith, slice_get}
+use Rattle.std.specs.Prelude.{codes}
+use Rattle.std.proofs.lemmas.Bool.{lt-ltb}
+use Rattle.std.proofs.lemmas.List.{append-nil, drop_more, drop_all}
+use Rattle.std.proofs.lemmas.Option.{get_or_from_slice_get, slice_get-get_or}
+use Rattle.serde_json.specs.Data.{Data, string, array, object, Items, no_members, member}
+use Rattle.serde_json.specs.View.{items_of}
+use Rattle.serde_json.specs.Written.{comma_if, compact_text, items_text, has_float}
+use Rattle.serde_json.proofs.OnLiterals.{serde_json_on_literals}
+use Rattle.hg_graph.specs.Op.{Op, Module, FuncDefn, Input, Output, Alloc, H, X, Free}
+use Rattle.hg_graph.specs.Graph.{Node, Link, Ports, Order, Graph, op_at, parent_at}
+use Rattle.hg_json.specs.GraphText.{array_of, node_data, node_members, link_data, graph_data, json}
+
+-- ---- no node and no link has a float
+
+pub node-whole : (op : Op) (parent : ℕ) → has_float (object (node_members op parent)) ≡ false
+unfolding node_members
+node-whole Module parent = refl
+node-whole (FuncDefn name) parent = refl
+node-whole Input parent = refl
+node-whole Output parent = refl
+node-whole Alloc parent = refl
+node-whole H parent = refl
+node-whole X parent = refl
+node-whole Free parent = refl
+
+pub link-whole : (link : Link) → has_float (link_data link) ≡ false
+link-whole (Ports from to) = refl
+link-whole (Order before after) = refl
+
+-- ---- a loop that writes one entry after the other
+
+module _ {A : Type 0} (data_of : A → Data) (xs : List A) (k : ℕ) where
+  pub one_written : (out new total : List ℕ) (x : A) → k < length xs → x ≡ get_or xs k x → new ≡ out ++ (comma_if (nat_lt 0 k) ++ compact_text (data_of x))
+      → out ++ items_text (nat_lt 0 k) (array_of data_of (drop k xs)) ≡ total → new ++ items_text (nat_lt 0 (k + 1)) (array_of data_of (drop (k + 1) xs)) ≡ total
+  one_written out new total x lt is e so_far =
+      let c = comma_if (nat_lt 0 k) in
+      let t = compact_text (data_of x) in
+      let rest = items_text true (array_of data_of (drop (k + 1) xs)) in
+      let here : drop k xs ≡ x ∷ drop (k + 1) xs = drop_more xs k x lt ∙ ap (λ y. y ∷ drop (k + 1) xs) (sym is) in
+      let later : nat_lt 0 (k + 1) ≡ true = lt-ltb 0 (k + 1) (omega arith) in
+      let first : out ++ items_text (nat_lt 0 k) (array_of data_of (drop k xs)) ≡ out ++ (c ++ (t ++ rest)) = ap (λ ys. out ++ items_text (nat_lt 0 k) (array_of data_of ys)) here in
+      ap (λ b. new ++ items_text b (array_of data_of (drop (k + 1) xs))) later ∙ ap (λ s. s ++ rest) e ∙ append_assoc out (c ++ t) rest ∙ ap (λ s. out ++ s) (append_assoc c t rest) ∙ sym first ∙ so_far
+
+  pub all_written : (out total : List ℕ) → length xs ≤ k → out ++ items_text (nat_lt 0 k) (array_of data_of (drop k xs)) ≡ total → out ++ 93 ∷ [] ≡ total
+  all_written out total le so_far = ap (λ ys. out ++ items_text (nat_lt 0 k) (array_of data_of ys)) (sym (drop_all k xs le)) ∙ so_far
+
+-- the entries that the readers of a graph give
+
+pub link-read : (links : List Link) (k : ℕ) (found : Option Link) (link : Link) → found ≡ slice_get links k → found ≡ Some link → link ≡ get_or links k link
+link-read links k found link looked some = sym (get_or_from_slice_get links k link link (sym looked ∙ some))
+
+pub node-read : (g : Graph) (k : ℕ) (d : Node) → k < length g.nodes → record { op = op_at g k; parent = parent_at g k } ≡ get_or g.nodes k d
+unfolding op_at parent_at
+node-read g k d within = rw (slice_get-get_or g.nodes k d within) refl
+
+-- ---- the whole text from its pieces
+
+pieces : (es ns : Items)
+    → codes "{\"edges\":[" ++ (items_text false es ++ (codes ",\"nodes\":[" ++ (items_text false ns ++ codes ",\"version\":\"profile-1\"}")))
+    ≡ compact_text (object (member (codes "edges") (array es) (member (codes "nodes") (array ns) (member (codes "version") (string (codes "profile-1")) no_members))))
+unfolding serde_json_on_literals
+pieces es ns = refl
+
+pub whole_text : (g : Graph)
+    → (((codes "{\"edges\":[" ++ items_text false (array_of link_data g.links)) ++ codes ",\"nodes\":[") ++ items_text false (array_of node_data g.nodes)) ++ codes ",\"version\":\"profile-1\"}" ≡ json g
+unfolding json graph_data
+whole_text g =
+    let es = items_text false (array_of link_data g.links) in
+    let ns = items_text false (array_of node_data g.nodes) in
+    let a = codes "{\"edges\":[" in
+    let b = codes ",\"nodes\":[" in
+    let c = codes ",\"version\":\"profile-1\"}" in
+    append_assoc ((a ++ es) ++ b) ns c ∙ append_assoc (a ++ es) b (ns ++ c) ∙ append_assoc a es (b ++ (ns ++ c)) ∙ pieces (array_of link_data g.links) (array_of node_data g.nodes)

@@ -1,0 +1,35 @@
+-- What a function of this crate answers, beside the definitions of reading: `view` is what contracts see
+-- of the value in hand. Memory may run out at any time.
+use Rattle.std.specs.Prelude.{◌≡◌, Option, Some, None, Result, Ok, Err, ⊤}
+use Rattle.hg_json.specs.declared.fault.Miss.{Miss}
+use Rattle.hg_json.specs.declared.fault.Miss.TheVariants as miss
+use Rattle.hg_json.specs.declared.fault.JsonFault.{JsonFault}
+use Rattle.hg_json.specs.declared.fault.JsonFault.TheVariants as fault
+use Rattle.hg_json.specs.Reading.{Refusal, NotJson, Top, Version, BadNode, BadLink}
+
+-- an option that is what was to be found
+abbrev pub Finds : {A B : Type 0} → (A → B) → Option A → Option B → Type 0
+Finds view None found = found ≡ None
+Finds view (Some x) found = found ≡ Some (view x)
+
+abbrev pub Misses : {B : Type 0} → Miss → Option B → Type 0
+Misses miss.Memory found = ⊤
+Misses miss.Shape found = found ≡ None
+
+-- a result that is what was to be found
+abbrev pub Gives : {A B : Type 0} → (A → B) → Result A Miss → Option B → Type 0
+Gives view (Ok x) found = found ≡ Some (view x)
+Gives view (Err e) found = Misses e found
+
+abbrev pub Refuses : {B : Type 0} → JsonFault → Result B Refusal → Type 0
+Refuses fault.NotJson read = read ≡ Err NotJson
+Refuses fault.Top read = read ≡ Err Top
+Refuses fault.Version read = read ≡ Err Version
+Refuses (fault.Node k) read = read ≡ Err (BadNode k)
+Refuses (fault.Link k) read = read ≡ Err (BadLink k)
+Refuses fault.Memory read = ⊤
+
+-- a result that is what was to be read, or its refusal
+abbrev pub Answers : {A B : Type 0} → (A → B) → Result A JsonFault → Result B Refusal → Type 0
+Answers view (Ok x) read = read ≡ Ok (view x)
+Answers view (Err e) read = Refuses e read

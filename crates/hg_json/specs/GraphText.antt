@@ -1,0 +1,60 @@
+-- The text of a graph: its data, written as `serde_json` writes it, without blanks and with the keys of
+-- each object in the rising order of their bytes.
+use Rattle.std.specs.Prelude.{ℕ, List, map, codes}
+use Rattle.serde_json.specs.Data.{unsigned, Data, null, number, string, array, object, Items, no_items, item, Members, no_members, member}
+use Rattle.serde_json.specs.View.{items_of}
+use Rattle.serde_json.specs.Written.{compact_text}
+use Rattle.hg_graph.specs.Op.{Op, Module, FuncDefn, Input, Output, Alloc, H, X, Free}
+use Rattle.hg_graph.specs.Graph.{Node, Link, Ports, Order, Graph}
+
+abbrev pub array_of : {A : Type 0} → (A → Data) → List A → Items
+array_of f xs = items_of (map f xs)
+
+abbrev pub natural : ℕ → Data
+natural n = number (unsigned n)
+
+-- a list of types; so far no op keeps a type
+abbrev pub no_types : Data
+no_types = array no_items
+
+-- ---- the members of a node: a shape for each list of keys
+
+abbrev pub bare : List ℕ → ℕ → Members
+bare op parent = member (codes "op") (string op) (member (codes "parent") (natural parent) no_members)
+
+abbrev pub typed : List ℕ → ℕ → Members
+typed op parent = member (codes "op") (string op) (member (codes "parent") (natural parent) (member (codes "types") no_types no_members))
+
+abbrev pub function : List ℕ → ℕ → Members
+function name parent =
+    member (codes "ins") no_types (member (codes "name") (string name) (member (codes "op") (string (codes "FuncDefn")) (member (codes "outs") no_types (member (codes "parent") (natural parent) no_members))))
+
+-- a row for each op: its name and its shape
+unfoldable pub node_members : Op → ℕ → Members
+node_members Module parent = bare (codes "Module") parent
+node_members (FuncDefn name) parent = function name parent
+node_members Input parent = typed (codes "Input") parent
+node_members Output parent = typed (codes "Output") parent
+node_members Alloc parent = bare (codes "quantum.alloc") parent
+node_members H parent = bare (codes "quantum.h") parent
+node_members X parent = bare (codes "quantum.x") parent
+node_members Free parent = bare (codes "quantum.free") parent
+
+abbrev pub node_data : Node → Data
+node_data node = object (node_members node.op node.parent)
+
+abbrev pub pair : Data → Data → Data
+pair a b = array (item a (item b no_items))
+
+-- a link of ports has their numbers, and an order link has null in place of both
+abbrev pub link_data : Link → Data
+link_data (Ports from to) = pair (pair (natural from.node) (natural from.index)) (pair (natural to.node) (natural to.index))
+link_data (Order before after) = pair (pair (natural before) null) (pair (natural after) null)
+
+unfoldable pub graph_data : Graph → Data
+graph_data g =
+    object (member (codes "edges") (array (array_of link_data g.links)) (member (codes "nodes") (array (array_of node_data g.nodes)) (member (codes "version") (string (codes "profile-1")) no_members)))
+
+-- the text of a graph
+unfoldable pub json : Graph → List ℕ
+json g = compact_text (graph_data g)

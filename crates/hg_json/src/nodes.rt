@@ -1,0 +1,95 @@
+//! The entries of `nodes`.
+
+ghost use Rattle.std.specs.Prelude.{◌<◌, IfOk};
+ghost use Rattle.serde_json.specs.View.{view};
+ghost use Rattle.hg_graph.specs.View.{op_view};
+ghost use Rattle.hg_graph.specs.NodeView.{node_view};
+ghost use Rattle.hg_json.specs.Reading as spec;
+ghost use Rattle.hg_json.specs.Answers.{Gives};
+
+use crate::fault::Miss;
+use crate::parts::{natural_at, no_types_at, text_at};
+use gp_base::Name;
+use hg_graph::{Node, NodeId, OpKind};
+use serde_json::Value;
+use std::alloc::Global;
+
+// A function.
+#[tactic(auto, unfolding(crate::specs::Reading::func_defn))]
+fn func_defn(alloc: Global, value: &Value) -> Result<OpKind, Miss>
+    ensures { Gives op_view result (spec.func_defn (view value.now)) }
+{
+    let Some(name) = text_at(value, "name") else {
+        return Err(Miss::Shape);
+    };
+    let Some(()) = no_types_at(value, "ins") else {
+        return Err(Miss::Shape);
+    };
+    let Some(()) = no_types_at(value, "outs") else {
+        return Err(Miss::Shape);
+    };
+    let name = Name::new(alloc, name)?;
+    Ok(OpKind::FuncDefn { name })
+}
+
+// An `Input`.
+#[tactic(auto, unfolding(crate::specs::Reading::input))]
+fn input(value: &Value) -> Result<OpKind, Miss>
+    ensures { Gives op_view result (spec.input (view value.now)) }
+{
+    let Some(()) = no_types_at(value, "types") else {
+        return Err(Miss::Shape);
+    };
+    Ok(OpKind::Input)
+}
+
+// An `Output`.
+#[tactic(auto, unfolding(crate::specs::Reading::output))]
+fn output(value: &Value) -> Result<OpKind, Miss>
+    ensures { Gives op_view result (spec.output (view value.now)) }
+{
+    let Some(()) = no_types_at(value, "types") else {
+        return Err(Miss::Shape);
+    };
+    Ok(OpKind::Output)
+}
+
+// The op of this name, with its keys.
+#[tactic(auto, unfolding(crate::specs::Reading::op_of))]
+fn op_of(alloc: Global, name: &str, value: &Value) -> Result<OpKind, Miss>
+    ensures { Gives op_view result (spec.op_of name.now (view value.now)) }
+{
+    match name {
+        "Module" => Ok(OpKind::Module),
+        "FuncDefn" => func_defn(alloc, value),
+        "Input" => input(value),
+        "Output" => output(value),
+        "quantum.alloc" => Ok(OpKind::Alloc),
+        "quantum.h" => Ok(OpKind::H),
+        "quantum.x" => Ok(OpKind::X),
+        "quantum.free" => Ok(OpKind::Free),
+        _ => Err(Miss::Shape),
+    }
+}
+
+/// A node of a graph of `total` nodes.
+#[tactic(auto, unfolding(crate::specs::Reading::node_of))]
+pub fn node_of(alloc: Global, total: u64, value: &Value) -> Result<Node, Miss>
+    ensures gives { Gives node_view result (spec.node_of total (view value.now)) }
+    ensures parent_in { IfOk result (λ node. node.parent.0 < total) }
+{
+    let Some(name) = text_at(value, "op") else {
+        return Err(Miss::Shape);
+    };
+    let Some(parent) = natural_at(value, "parent") else {
+        return Err(Miss::Shape);
+    };
+    if parent >= total {
+        return Err(Miss::Shape);
+    }
+    let op = op_of(alloc, name, value)?;
+    Ok(Node {
+        op,
+        parent: NodeId(parent),
+    })
+}

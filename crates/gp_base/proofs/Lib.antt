@@ -3,3 +3,4 @@ pub mod LastPut
 pub mod Live
 pub mod Pieces
 pub mod TraceLines
+pub mod Written

@@ -1,5 +1,5 @@
 -- What is said of files and sinks.
-use Rattle.std.specs.Prelude.{◌≡◌, ℕ, ◌+◌, ◌-◌, ◌^◌, ◌≤◌, ◌↔◌, min, List, [], ◌++◌, Option, Some, None, IsSome}
+use Rattle.std.specs.Prelude.{◌≡◌, ℕ, ◌+◌, ◌-◌, ◌^◌, ◌≤◌, ◌↔◌, min, List, [], ◌++◌, take, Option, Some, None, IsSome}
 
 -- What each name holds, where it is told. A name is its bytes.
 abbrev pub Holdings : Type 0
@@ -29,6 +29,13 @@ prepended front (Some rest) = Some (front ++ rest)
 abbrev pub appended : Option (List ℕ) → List ℕ → Option (List ℕ)
 appended None more = None
 appended (Some bytes) more = Some (bytes ++ more)
+
+-- between two moments a sink got this text whole, or a part from the front of it
+abbrev pub Wrote : Option (List ℕ) → Option (List ℕ) → List ℕ → Type 0
+Wrote before after text = after ≡ appended before text
+
+abbrev pub WrotePart : Option (List ℕ) → Option (List ℕ) → List ℕ → Type 0
+WrotePart before after text = (count : ℕ) × Wrote before after (take count text)
 
 -- reading n bytes of what was left: none exactly at the end, where that is told
 abbrev pub IsEndOf : Option (List ℕ) → ℕ → Type 0

@@ -20,7 +20,7 @@ pub use memory_files::MemoryFiles;
 pub use memory_sink::MemorySink;
 pub use name::{LineNo, Name, Names};
 pub use sequence::{Sequence, TextBytes};
-pub use sink::Sink;
+pub use sink::{Sink, write_all};
 pub use tag::Tag;
 
 #[cfg(test)]

@@ -1,5 +1,8 @@
 //! What the program writes to.
 
+ghost use Rattle.std.specs.Prelude.{OnOk, OnErr};
+ghost use Rattle.gp_base.specs.Outside.{Rose, Wrote, WrotePart};
+
 use crate::files::Failed;
 
 /// A target of bytes.
@@ -27,4 +30,17 @@ pub trait Sink {
         ensures unwritten { OnErr result (bytes self.new ≡ bytes self.old) }
         ensures cause { OnErr result (Rose (faults self.old) (faults self.new)) }
         ensures count { faults self.old ≤ faults self.new };
+}
+
+/// Writes all bytes, in as many pieces as the sink takes. After an error the sink has a part from their front.
+pub fn write_all<S: Sink>(sink: &mut S, bytes: &[u8]) -> Result<(), Failed>
+    ensures ok { OnOk result (Wrote (S.bytes sink.old) (S.bytes sink.new) bytes.now) }
+    ensures err { OnErr result (WrotePart (S.bytes sink.old) (S.bytes sink.new) bytes.now) }
+    ensures cause { OnErr result (Rose (S.faults sink.old) (S.faults sink.new)) }
+{
+    let mut count = 0;
+    while count < bytes.len() {
+        count += sink.write(&bytes[count..])?;
+    }
+    Ok(())
 }

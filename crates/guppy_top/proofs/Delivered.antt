@@ -1,15 +1,15 @@
 -- From what was sent to what is delivered.
 use Rattle.std.proofs.Common.{◌≡◌, ◌⊎◌, ℕ, List, [], ◌∷◌, ◌++◌, take, Option, Some, None, inl, inr, refl, sym, ap, subst, ◌∙◌}
-use Rattle.gp_base.specs.Outside.{Holdings}
+use Rattle.gp_base.specs.Outside.{Holdings, Wrote, WrotePart}
 use Rattle.guppy_top.specs.declared.compile.TheConstants.{SOURCE_LIMIT}
 use Rattle.guppy_top.specs.declared.status.Status.{Status}
 use Rattle.guppy_top.specs.declared.status.Status.TheVariants as status
 use Rattle.guppy_top.specs.declared.refusal.Refusal.{Refusal}
 use Rattle.guppy_top.specs.Refusal.{refusal_text, status_of}
-use Rattle.guppy_top.specs.Call.{Answer, Seen, seen, Sends, Wrote, WrotePart, line_of, refused, Answered, CutShort, Delivers}
+use Rattle.guppy_top.specs.Call.{Answer, Seen, seen, Sends, line_of, refused, Answered, CutShort, Delivers}
 use Rattle.guppy_top.specs.Compile.{IsDue, CompilesFile, read}
 use Rattle.guppy_top.specs.Input.{AreRead}
-use Rattle.guppy_top.proofs.Written.{appended-nil}
+use Rattle.gp_base.proofs.Written.{appended-nil}
 
 -- a text that was sent to `out`, with nothing to `err`
 pub delivered-out : (result due : Status) (n m : ℕ) (out out_after err : Option (List ℕ)) (text : List ℕ)

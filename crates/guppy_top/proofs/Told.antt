@@ -2,20 +2,20 @@
 use Rattle.std.proofs.Common.{◌≡◌, ◌⊎◌, ℕ, ◌+◌, ◌<◌, ◌≤◌, List, [], length, take, Option, Some, None, inl, inr, refl, sym, ap, subst, ◌∙◌, arith}
 use Rattle.std.specs.Option.{option_map}
 use Rattle.std.proofs.lemmas.List.{take_all, length-take-le}
-use Rattle.gp_base.specs.Outside.{Holdings, contents_of, IsMissing, Rose}
+use Rattle.gp_base.specs.Outside.{Holdings, contents_of, IsMissing, Rose, Wrote}
 use Rattle.hg_graph.specs.Thin.{ThinGate, thin_graph}
 use Rattle.hg_graph.proofs.ThinLinked.{thin_graphs_are_linked}
 use Rattle.hg_graph.proofs.ThinRuns.{thin_graphs_run}
 use Rattle.guppy_top.specs.declared.compile.TheConstants.{SOURCE_LIMIT}
 use Rattle.guppy_top.specs.declared.status.Status.TheVariants as status
 use Rattle.guppy_top.specs.declared.refusal.Refusal.TheVariants.{TooLong}
-use Rattle.guppy_top.specs.Call.{Answer, Seen, Wrote, refused, Answered, CutShort, Delivers, Settles}
+use Rattle.guppy_top.specs.Call.{Answer, Seen, refused, Answered, CutShort, Delivers, Settles}
 use Rattle.guppy_top.specs.Compile.{IsDue, too_long, IsGraphOf, MeansCompile, CompilesFile, failed, no_memory, read}
 use Rattle.guppy_top.specs.Input.{AreRead}
 use Rattle.guppy_top.specs.Words.{Meaning, meaning_of}
 use Rattle.guppy_top.specs.declared.words.Mode.{Mode}
 use Rattle.guppy_top.specs.declared.words.Mode.TheVariants.{Compile}
-use Rattle.guppy_top.proofs.Written.{appended-nil}
+use Rattle.gp_base.proofs.Written.{appended-nil}
 
 -- the first bytes of a text that are read
 abbrev pub front : List ℕ → List ℕ

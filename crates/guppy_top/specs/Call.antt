@@ -1,18 +1,11 @@
 -- What is seen of a call of the program.
 use Rattle.std.specs.Prelude.{◌≡◌, ◌⊎◌, ℕ, List, [], ◌∷◌, ◌++◌, take, Option}
-use Rattle.gp_base.specs.Outside.{appended, Rose}
+use Rattle.gp_base.specs.Outside.{Rose, Wrote, WrotePart}
 use Rattle.guppy_top.specs.declared.status.Status.{Status}
 use Rattle.guppy_top.specs.declared.status.Status.TheVariants as status
 use Rattle.guppy_top.specs.declared.refusal.Refusal.{Refusal}
 use Rattle.guppy_top.specs.declared.refusal.Refusal.TheVariants.{ReadFault}
 use Rattle.guppy_top.specs.Refusal.{refusal_text, status_of}
-
--- between two moments a sink got this text whole, or a part from the front of it
-abbrev pub Wrote : Option (List ℕ) → Option (List ℕ) → List ℕ → Type 0
-Wrote before after text = after ≡ appended before text
-
-abbrev pub WrotePart : Option (List ℕ) → Option (List ℕ) → List ℕ → Type 0
-WrotePart before after text = (count : ℕ) × Wrote before after (take count text)
 
 -- A call that writes to one sink ends with the status that is due, and the text is written; or a fault of
 -- writing or want of memory came between, and a part of the text is.

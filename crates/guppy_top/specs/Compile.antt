@@ -16,7 +16,7 @@ use Rattle.guppy_top.specs.declared.refusal.SourceFault.TheVariants.{GivenUp, He
 use Rattle.guppy_top.specs.declared.refusal.Refusal.{Refusal}
 use Rattle.guppy_top.specs.declared.words.Mode.TheVariants.{Compile}
 use Rattle.guppy_top.specs.Call.{Answer, refused, done, Seen, Delivers}
-use Rattle.guppy_top.specs.GraphText.{json}
+use Rattle.hg_json.specs.GraphText.{json}
 use Rattle.guppy_top.specs.Input.{AreRead}
 use Rattle.guppy_top.specs.Words.{Meaning, meaning_of}
 

@@ -1,6 +1,5 @@
 pub mod Call
 pub mod Compile
-pub mod GraphText
 pub mod Input
 pub mod Made
 pub mod Refusal

@@ -6,16 +6,16 @@ ghost use Rattle.hg_graph.specs.Thin.{ThinGate, thin_graph};
 ghost use Rattle.gp_lower.specs.Thin.{AreComplete, gate_lines, complete_lines};
 ghost use Rattle.guppy_top.specs.Call.{Answer, refused, done};
 ghost use Rattle.guppy_top.specs.Compile.{is_discard, spent_lines, given_up_at, held_at_return_at, IsDue};
-ghost use Rattle.guppy_top.specs.GraphText.{json};
+ghost use Rattle.hg_json.specs.GraphText.{json};
 ghost use Rattle.guppy_top.specs.Refusal.{status_of};
 ghost use Rattle.guppy_top.specs.Made.{Makes, RefusesInput};
 
-use crate::graph_text::write;
 use crate::refusal::{Refusal, SourceFault};
 use crate::status::Status;
 use gp_base::LineNo;
 use gp_lower::lower_thin;
 use gp_parse::{ThinLine, ThinLines, thin};
+use hg_json::write;
 use std::alloc::{AllocError, AllocFailed, Global};
 
 /// The most bytes that a source text has.

@@ -1,15 +1,15 @@
 //! The top call: what the program does for the words of its command line.
 
 ghost use Rattle.std.specs.Prelude.{◌≡◌, ◌≢◌, ◌⊎◌, ◌+◌, ◌<◌, ◌≤◌, ℕ, List, [], length, None};
-ghost use Rattle.gp_base.specs.Outside.{Rose, IsMissing};
+ghost use Rattle.gp_base.specs.Outside.{Rose, IsMissing, Wrote};
 ghost use Rattle.gp_parse.specs.declared.thin_text.ThinLine.{ThinLine};
 ghost use Rattle.hg_graph.specs.Graph.{Graph};
 ghost use Rattle.hg_graph.specs.Thin.{ThinGate};
 ghost use Rattle.gp_lower.specs.Thin.{gate_lines, complete_lines};
 ghost use Rattle.guppy_top.specs.declared.compile.TheConstants.{SOURCE_LIMIT};
-ghost use Rattle.guppy_top.specs.Call.{seen, refused, done, Answered, Delivers, Settles, Wrote};
+ghost use Rattle.guppy_top.specs.Call.{seen, refused, done, Answered, Delivers, Settles};
 ghost use Rattle.guppy_top.specs.Compile.{IsThin, IsNotThin, spent_lines, given_up_at, held_at_return_at, IsGraphOf, MeansCompile, Compiling, CompilingMissing, CompilesFile};
-ghost use Rattle.guppy_top.specs.GraphText.{json};
+ghost use Rattle.hg_json.specs.GraphText.{json};
 ghost use Rattle.guppy_top.specs.Words.{meaning_of};
 
 use crate::compile::{CompileError, SOURCE_LIMIT, compile_text};

@@ -2,7 +2,6 @@
 #![tactic(auto)]
 
 mod compile;
-mod graph_text;
 mod guppy;
 mod input;
 mod output;

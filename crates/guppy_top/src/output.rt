@@ -1,27 +1,14 @@
 //! Writing.
 
-ghost use Rattle.std.specs.Prelude.{◌≡◌, ◌⊎◌, [], OnOk, OnErr};
-ghost use Rattle.gp_base.specs.Outside.{Rose};
-ghost use Rattle.guppy_top.specs.Call.{Wrote, WrotePart, Sends, line_of};
+ghost use Rattle.std.specs.Prelude.{◌≡◌, ◌⊎◌, []};
+ghost use Rattle.gp_base.specs.Outside.{Rose, Wrote};
+ghost use Rattle.guppy_top.specs.Call.{Sends, line_of};
 ghost use Rattle.guppy_top.specs.Refusal.{refusal_text, status_of};
 
 use crate::refusal::Refusal;
 use crate::status::Status;
-use gp_base::{Failed, Sink};
+use gp_base::{Failed, Sink, write_all};
 use std::alloc::Global;
-
-/// Writes all bytes, in as many pieces as the sink takes. After an error the sink has a part from their front.
-pub fn write_all<S: Sink>(sink: &mut S, bytes: &[u8]) -> Result<(), Failed>
-    ensures ok { OnOk result (Wrote (S.bytes sink.old) (S.bytes sink.new) bytes.now) }
-    ensures err { OnErr result (WrotePart (S.bytes sink.old) (S.bytes sink.new) bytes.now) }
-    ensures cause { OnErr result (Rose (S.faults sink.old) (S.faults sink.new)) }
-{
-    let mut count = 0;
-    while count < bytes.len() {
-        count += sink.write(&bytes[count..])?;
-    }
-    Ok(())
-}
 
 /// Writes a text, and answers the status that is due then, or `WriteFault`.
 pub fn send<S: Sink>(sink: &mut S, text: &[u8], due: Status) -> Status

@@ -69,7 +69,7 @@ impl<W: Write> Sink for RealSink<W> {
 #[cfg(test)]
 mod tests {
     use super::*;
-    use crate::output::write_all;
+    use gp_base::write_all;
 
     // Is interrupted once, takes two bytes once, takes none once, and fails after that.
     #[derive(Drop)]

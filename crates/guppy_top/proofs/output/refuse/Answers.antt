@@ -1,4 +1,4 @@
-use Rattle.guppy_top.proofs.Written.{appended-nil}
+use Rattle.gp_base.proofs.Written.{appended-nil}
 use Rattle.guppy_top.proofs.output.refuse.Goals as goal
 
 pub returns-in-Err-clause-memory : goal.returns-in-Err-clause-memory

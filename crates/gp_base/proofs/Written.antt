@@ -3,7 +3,6 @@ use Rattle.std.proofs.Common.{◌≡◌, ℕ, ◌+◌, ◌<◌, ◌≤◌, List,
 use Rattle.std.proofs.lemmas.List.{append-nil, take_all}
 use Rattle.gp_base.specs.Outside.{appended}
 use Rattle.gp_base.proofs.Pieces.{appended-more}
-use Rattle.guppy_top.specs.Call.{Wrote, WrotePart}
 
 -- the first bytes are written
 pub record WrittenSoFar (bytes : List ℕ) (count : ℕ) (before now : Option (List ℕ)) (faults faults_now : ℕ) : Type 0 where

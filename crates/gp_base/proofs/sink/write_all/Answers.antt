@@ -1,6 +1,6 @@
 use Rattle.std.proofs.lemmas.List.{take_rest}
-use Rattle.guppy_top.proofs.Written.{one_more}
-use Rattle.guppy_top.proofs.output.write_all.Goals as goal
+use Rattle.gp_base.proofs.Written.{one_more}
+use Rattle.gp_base.proofs.sink.write_all.Goals as goal
 
 pub loop-count-preserved : goal.loop-count-preserved
 loop-count-preserved g c =

@@ -1,7 +1,7 @@
 use Rattle.std.proofs.Common.{◌≡◌, ◌-◌, ◌≤◌, length, take}
-use Rattle.guppy_top.specs.Call.{Wrote}
-use Rattle.guppy_top.proofs.Written.{WrittenSoFar}
-use Rattle.guppy_top.proofs.output.write_all.Given as goal
+use Rattle.gp_base.specs.Outside.{Wrote}
+use Rattle.gp_base.proofs.Written.{WrittenSoFar}
+use Rattle.gp_base.proofs.sink.write_all.Given as goal
 
 abbrev pub invariant-loop-count : goal.invariant-loop-count
 invariant-loop-count g l =

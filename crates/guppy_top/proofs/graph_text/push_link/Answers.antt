@@ -1,7 +1,0 @@
-use Rattle.std.proofs.Common.{ap, ◌∙◌}
-use Rattle.serde_json.specs.Written.{has_float}
-use Rattle.guppy_top.proofs.Pushes.{link-whole}
-use Rattle.guppy_top.proofs.graph_text.push_link.Goals as goal
-
-pub push_value-requires : goal.push_value-requires
-push_value-requires c = ap has_float c.in_ok-value.ensures ∙ link-whole _

@@ -1,13 +1,12 @@
 -- From what was sent to what is delivered.
 use Rattle.std.proofs.Common.{◌≡◌, ◌⊎◌, ℕ, List, [], ◌∷◌, ◌++◌, take, Option, Some, None, inl, inr, refl, sym, ap, subst, ◌∙◌}
 use Rattle.gp_base.specs.Outside.{Holdings, Wrote, WrotePart}
-use Rattle.guppy_top.specs.declared.compile.TheConstants.{SOURCE_LIMIT}
 use Rattle.guppy_top.specs.declared.status.Status.{Status}
 use Rattle.guppy_top.specs.declared.status.Status.TheVariants as status
 use Rattle.guppy_top.specs.declared.refusal.Refusal.{Refusal}
 use Rattle.guppy_top.specs.Refusal.{refusal_text, status_of}
 use Rattle.guppy_top.specs.Call.{Answer, Seen, seen, Sends, line_of, refused, Answered, CutShort, Delivers}
-use Rattle.guppy_top.specs.Compile.{IsDue, CompilesFile, read}
+use Rattle.guppy_top.specs.WordsFile.{AnswersFile, read}
 use Rattle.guppy_top.specs.Input.{AreRead}
 use Rattle.gp_base.proofs.Written.{appended-nil}
 
@@ -36,22 +35,22 @@ sent-status result due other before after text s e =
     elim s [ inl w ↦ inl (sym w.0 ∙ e) | inr cut ↦ inr (elim cut.0 [ inl f ↦ inl (sym e ∙ f) | inr m ↦ inr (sym e ∙ m) ]) ]
 
 -- a text was read, and its line was sent to `out`
-pub read-out : (held : Holdings) (file : List ℕ) (result : Status) (n m : ℕ) (out out_after err : Option (List ℕ)) (text bytes line written : List ℕ)
-    → AreRead held file SOURCE_LIMIT text → bytes ≡ text
-    → ((answer : Answer) → IsDue bytes answer → answer ≡ record { status = status.Done; out = line; err = [] })
-    → written ≡ line → Sends result status.Done out out_after written → CompilesFile held file (seen result n m out out_after err err)
-read-out held file result n m out out_after err text bytes line written are_read same due whole sent =
+pub read-out : (Due : List ℕ → Answer → Type 0) (limit : ℕ) (held : Holdings) (file : List ℕ) (result : Status) (n m : ℕ) (out out_after err : Option (List ℕ)) (text bytes line written : List ℕ)
+    → AreRead held file limit text → bytes ≡ text
+    → ((answer : Answer) → Due bytes answer → answer ≡ record { status = status.Done; out = line; err = [] })
+    → written ≡ line → Sends result status.Done out out_after written → AnswersFile Due limit held file (seen result n m out out_after err err)
+read-out Due limit held file result n m out out_after err text bytes line written are_read same due whole sent =
     read text are_read (λ answer is_due.
-    let e = due answer (subst (λ t. IsDue t answer) (sym same) is_due) ∙ ap (λ t. record { status = status.Done; out = t; err = [] }) (sym whole) in
+    let e = due answer (subst (λ t. Due t answer) (sym same) is_due) ∙ ap (λ t. record { status = status.Done; out = t; err = [] }) (sym whole) in
     subst (Delivers (seen result n m out out_after err err)) (sym e) (delivered-out result status.Done n m out out_after err written sent))
 
 -- a text was read, and the line of its refusal was sent to `err`
-pub read-err : (held : Holdings) (file : List ℕ) (result : Status) (n m : ℕ) (out err err_after : Option (List ℕ)) (text bytes : List ℕ) (refusal : Refusal)
-    → AreRead held file SOURCE_LIMIT text → bytes ≡ text → ((answer : Answer) → IsDue bytes answer → answer ≡ refused refusal)
-    → Sends result (status_of refusal) err err_after (line_of (refusal_text refusal)) → CompilesFile held file (seen result n m out out err err_after)
-read-err held file result n m out err err_after text bytes refusal are_read same due sent =
+pub read-err : (Due : List ℕ → Answer → Type 0) (limit : ℕ) (held : Holdings) (file : List ℕ) (result : Status) (n m : ℕ) (out err err_after : Option (List ℕ)) (text bytes : List ℕ) (refusal : Refusal)
+    → AreRead held file limit text → bytes ≡ text → ((answer : Answer) → Due bytes answer → answer ≡ refused refusal)
+    → Sends result (status_of refusal) err err_after (line_of (refusal_text refusal)) → AnswersFile Due limit held file (seen result n m out out err err_after)
+read-err Due limit held file result n m out err err_after text bytes refusal are_read same due sent =
     read text are_read (λ answer is_due.
-    let e = due answer (subst (λ t. IsDue t answer) (sym same) is_due) in
+    let e = due answer (subst (λ t. Due t answer) (sym same) is_due) in
     subst (Delivers (seen result n m out out err err_after)) (sym e) (delivered-err result (status_of refusal) n m out err err_after _ sent))
 
 -- a refused input has one of three statuses

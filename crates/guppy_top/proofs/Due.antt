@@ -8,7 +8,7 @@ use Rattle.gp_parse.specs.Thin.{line_text, lines_text, thin_head, thin_text}
 use Rattle.gp_parse.proofs.ThinLemmas.{one_reading}
 use Rattle.hg_graph.specs.Thin.{ThinGate, thin_graph}
 use Rattle.gp_lower.specs.Thin.{gate_lines, complete_lines}
-use Rattle.guppy_top.specs.declared.compile.CompileError.{CompileError}
+use Rattle.guppy_top.specs.declared.mode_error.ModeError.{ModeError}
 use Rattle.guppy_top.specs.declared.refusal.Refusal.TheVariants.{NotBuilt}
 use Rattle.guppy_top.specs.Call.{Answer, refused, done}
 use Rattle.guppy_top.specs.Compile.{IsThin, IsNotThin, spent_lines, given_up_at, held_at_return_at, IsDue, too_long, not_built, given_up, held_at_return, compiled}
@@ -24,7 +24,7 @@ due-not_thin text n answer (held_at_return gates t) = absurd (n.other _ t.spelle
 due-not_thin text n answer (compiled gates t) = absurd (n.other _ t.spelled)
 
 -- what is due for a thin text follows from its lines
-pub due-thin : (text : List ℕ) (lines : List ThinLine) (result : Result (Vec ℕ Global) CompileError) → IsThin text lines
+pub due-thin : (text : List ℕ) (lines : List ThinLine) (result : Result (Vec ℕ Global) ModeError) → IsThin text lines
     → ((gates : List ThinGate) (next : ThinLine) (more : List ThinLine) → lines ≡ spent_lines gates next more → Makes result (refused (given_up_at (8 + length gates))))
     → ((gates : List ThinGate) → lines ≡ gate_lines gates → Makes result (refused (held_at_return_at 5)))
     → ((gates : List ThinGate) → lines ≡ complete_lines gates → Makes result (done (json (thin_graph gates))))

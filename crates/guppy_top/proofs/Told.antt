@@ -10,51 +10,66 @@ use Rattle.guppy_top.specs.declared.compile.TheConstants.{SOURCE_LIMIT}
 use Rattle.guppy_top.specs.declared.status.Status.TheVariants as status
 use Rattle.guppy_top.specs.declared.refusal.Refusal.TheVariants.{TooLong}
 use Rattle.guppy_top.specs.Call.{Answer, Seen, refused, Answered, CutShort, Delivers, Settles}
-use Rattle.guppy_top.specs.Compile.{IsDue, too_long, IsGraphOf, MeansCompile, CompilesFile, failed, no_memory, read}
+use Rattle.hg_json.specs.declared.reading.TheConstants.{MAX_TEXT_BYTES}
+use Rattle.guppy_top.specs.Compile.{IsDue, too_long, IsGraphOf}
+use Rattle.guppy_top.specs.RunDue as run
+use Rattle.guppy_top.specs.RunDue.{IsDueRun}
+use Rattle.guppy_top.specs.WordsFile.{Means, AnswersFile, failed, no_memory, read}
 use Rattle.guppy_top.specs.Input.{AreRead}
 use Rattle.guppy_top.specs.Words.{Meaning, meaning_of}
 use Rattle.guppy_top.specs.declared.words.Mode.{Mode}
-use Rattle.guppy_top.specs.declared.words.Mode.TheVariants.{Compile}
 use Rattle.gp_base.proofs.Written.{appended-nil}
 
 -- the first bytes of a text that are read
-abbrev pub front : List ℕ → List ℕ
-front text = take (SOURCE_LIMIT + 1) text
+abbrev pub front : ℕ → List ℕ → List ℕ
+front limit text = take (limit + 1) text
 
 not_missing : (held : Holdings) (file text : List ℕ) → contents_of held file ≡ Some text → IsMissing held file → ⊥
 not_missing None file text e missing = missing
 not_missing (Some holds) file text e missing = cc
 
-what_was_read : (held : Holdings) (file text bytes : List ℕ) → contents_of held file ≡ Some text → AreRead held file SOURCE_LIMIT bytes → bytes ≡ front text
-what_was_read None file text bytes e are_read = absurd cc
-what_was_read (Some holds) file text bytes e are_read =
-    let same : Some bytes ≡ Some (front text) = sym are_read ∙ ap (option_map front) e in
+what_was_read : (limit : ℕ) (held : Holdings) (file text bytes : List ℕ) → contents_of held file ≡ Some text → AreRead held file limit bytes → bytes ≡ front limit text
+what_was_read limit None file text bytes e are_read = absurd cc
+what_was_read limit (Some holds) file text bytes e are_read =
+    let same : Some bytes ≡ Some (front limit text) = sym are_read ∙ ap (option_map (front limit)) e in
     cc
 
 -- what is due for the bytes that are read of a file's contents is answered, unless a fault was counted
-pub settles : (held : Holdings) (file text : List ℕ) (call : Seen) (answer : Answer) → contents_of held file ≡ Some text
-    → CompilesFile held file call → (call.status ≡ status.Memory → Wrote call.out call.out_after [] × Wrote call.err call.err_after [])
-    → IsDue (front text) answer → Settles call answer
-settles held file text call answer e (failed cause delivered) memory due =
+pub settles : (Due : List ℕ → Answer → Type 0) (limit : ℕ) (held : Holdings) (file text : List ℕ) (call : Seen) (answer : Answer) → contents_of held file ≡ Some text
+    → AnswersFile Due limit held file call → (call.status ≡ status.Memory → Wrote call.out call.out_after [] × Wrote call.err call.err_after [])
+    → Due (front limit text) answer → Settles call answer
+settles Due limit held file text call answer e (failed cause delivered) memory due =
     elim cause [ inl rose ↦ inl (rose, delivered) | inr missing ↦ absurd (not_missing held file text e missing) ]
-settles held file text call answer e (no_memory none) memory due =
+settles Due limit held file text call answer e (no_memory none) memory due =
     let unwritten = memory none in
     inr (inr (record { status = inr none; out = (0, unwritten.0); err = (0, unwritten.1) }))
-settles held file text call answer e (read bytes are_read delivers) memory due =
-    inr (delivers answer (subst (λ t. IsDue t answer) (sym (what_was_read held file text bytes e are_read)) due))
+settles Due limit held file text call answer e (read bytes are_read delivers) memory due =
+    inr (delivers answer (subst (λ t. Due t answer) (sym (what_was_read limit held file text bytes e are_read)) due))
 
--- a text within the limit is read whole
-pub whole : (text : List ℕ) → length text ≤ SOURCE_LIMIT → text ≡ front text
-whole text within = sym (take_all (SOURCE_LIMIT + 1) text (omega arith))
+-- a text within the limit is read whole, and of a longer one one byte too many
+pub whole : (limit : ℕ) (text : List ℕ) → length text ≤ limit → text ≡ front limit text
+whole limit text within = sym (take_all (limit + 1) text (omega arith))
 
-pub due-whole : (text : List ℕ) (answer : Answer) → length text ≤ SOURCE_LIMIT → IsDue text answer → IsDue (front text) answer
-due-whole text answer within due = subst (λ t. IsDue t answer) (whole text within) due
+pub longer : (limit : ℕ) (text : List ℕ) → limit < length text → limit < length (front limit text)
+longer limit text long =
+    let count : length (front limit text) ≡ limit + 1 = length-take-le (limit + 1) text (omega arith) in
+    omega arith
 
--- of a longer one, one byte too many is
-pub due-too_long : (text : List ℕ) → SOURCE_LIMIT < length text → IsDue (front text) (refused TooLong)
-due-too_long text long =
-    let count : length (front text) ≡ SOURCE_LIMIT + 1 = length-take-le (SOURCE_LIMIT + 1) text (omega arith) in
-    too_long (omega arith)
+pub due-whole : (text : List ℕ) (answer : Answer) → length text ≤ SOURCE_LIMIT → IsDue text answer → IsDue (front SOURCE_LIMIT text) answer
+due-whole text answer within due = subst (λ t. IsDue t answer) (whole SOURCE_LIMIT text within) due
+
+pub due-too_long : (text : List ℕ) → SOURCE_LIMIT < length text → IsDue (front SOURCE_LIMIT text) (refused TooLong)
+due-too_long text long = too_long (longer SOURCE_LIMIT text long)
+
+-- what is due for a graph text is due for the bytes that are read of it
+due-front : (text : List ℕ) (answer : Answer) → length text ≤ MAX_TEXT_BYTES → IsDueRun text answer → IsDueRun (front MAX_TEXT_BYTES text) answer
+due-front text answer within due = subst (λ t. IsDueRun t answer) (whole MAX_TEXT_BYTES text within) due
+
+pub due-run : (text : List ℕ) (answer : Answer) → IsDueRun text answer → IsDueRun (front MAX_TEXT_BYTES text) answer
+due-run text answer (run.too_long long) = run.too_long (longer MAX_TEXT_BYTES text long)
+due-run text answer (run.no_graph within why e) = due-front text _ within (run.no_graph within why e)
+due-run text answer (run.not_built g t n) = due-front text _ t.within (run.not_built g t n)
+due-run text answer (run.runs g t n) = due-front text _ t.within (run.runs g t n)
 
 -- the graph of gates, with what holds of it
 pub graph_of : (gates : List ThinGate) → IsGraphOf gates (thin_graph gates)
@@ -67,14 +82,11 @@ graph_of gates = record {
 
 -- ---- what the words mean
 
--- `compile` is the only mode
-pub is_compile : (mode : Mode) → mode ≡ Compile
-is_compile Compile = refl
+pub means : (m : Meaning) (words : List (List ℕ)) → Some m ≡ meaning_of words → Means words m.mode m.file
+means m words e = sym e
 
-pub means : (m : Meaning) (words : List (List ℕ)) → Some m ≡ meaning_of words → m.mode ≡ Compile → MeansCompile words m.file
-means m words e mode =
-    let meant : Mode → Option Meaning = λ other. Some (record { mode = other; file = m.file }) in
-    sym e ∙ ap meant mode
+pub same_file : (m : Meaning) (words : List (List ℕ)) (mode : Mode) (file : List ℕ) → Some m ≡ meaning_of words → Means words mode file → m.file ≡ file
+same_file m words mode file e means_it = let same : Some m ≡ Some (record { mode = mode; file = file }) = e ∙ means_it in cc
 
-pub same_file : (m : Meaning) (words : List (List ℕ)) (file : List ℕ) → Some m ≡ meaning_of words → MeansCompile words file → m.file ≡ file
-same_file m words file e means_it = let same : Some m ≡ Some (record { mode = Compile; file = file }) = e ∙ means_it in cc
+pub same_mode : (m : Meaning) (words : List (List ℕ)) (mode : Mode) (file : List ℕ) → Some m ≡ meaning_of words → Means words mode file → m.mode ≡ mode
+same_mode m words mode file e means_it = let same : Some m ≡ Some (record { mode = mode; file = file }) = e ∙ means_it in cc

@@ -1,7 +1,6 @@
 -- What `compile` answers.
 use Rattle.std.specs.Prelude.{◌≡◌, ◌≢◌, ◌⊎◌, ℕ, ◌+◌, ◌<◌, ◌≤◌, Bool, true, false, List, [], ◌∷◌, ◌++◌, length, Option, Some, None}
 use Rattle.gp_base.specs.declared.name.LineNo.{LineNo}
-use Rattle.gp_base.specs.Outside.{Holdings, contents_of, IsMissing, Rose}
 use Rattle.gp_parse.specs.declared.thin_text.ThinLine.{ThinLine}
 use Rattle.gp_parse.specs.declared.thin_text.ThinLine.TheVariants.{H, X, Discard}
 use Rattle.gp_parse.specs.Thin.{thin_text}
@@ -10,17 +9,11 @@ use Rattle.hg_graph.specs.Rules.{InputsLinkedOnce, LinearOutputsLinkedOnce}
 use Rattle.hg_graph.specs.Thin.{ThinGate, thin_graph}
 use Rattle.gp_lower.specs.Thin.{gate_lines, complete_lines, RunsGates}
 use Rattle.guppy_top.specs.declared.compile.TheConstants.{SOURCE_LIMIT}
-use Rattle.guppy_top.specs.declared.status.Status.TheVariants as status
-use Rattle.guppy_top.specs.declared.refusal.Refusal.TheVariants.{ReadFault, TooLong, NotBuilt, Source}
+use Rattle.guppy_top.specs.declared.refusal.Refusal.TheVariants.{TooLong, NotBuilt, Source}
 use Rattle.guppy_top.specs.declared.refusal.SourceFault.TheVariants.{GivenUp, HeldAtReturn}
 use Rattle.guppy_top.specs.declared.refusal.Refusal.{Refusal}
-use Rattle.guppy_top.specs.declared.words.Mode.TheVariants.{Compile}
-use Rattle.guppy_top.specs.Call.{Answer, refused, done, Seen, Delivers}
+use Rattle.guppy_top.specs.Call.{Answer, refused, done}
 use Rattle.hg_json.specs.GraphText.{json}
-use Rattle.guppy_top.specs.Input.{AreRead}
-use Rattle.guppy_top.specs.Words.{Meaning, meaning_of}
-
--- ---- texts
 
 -- a text within the limit whose lines after `q = qubit()` are these
 pub record IsThin (text : List ℕ) (lines : List ThinLine) : Type 0 where
@@ -66,28 +59,3 @@ pub record IsGraphOf (gates : List ThinGate) (g : Graph) : Type 0 where
   pub inputs : InputsLinkedOnce g
   pub linear_outputs : LinearOutputsLinkedOnce g
   pub runs : RunsGates gates g
-
--- ---- calls
-
--- the words mean `compile` of this file
-abbrev pub MeansCompile : List (List ℕ) → List ℕ → Type 0
-MeansCompile words file = meaning_of words ≡ Some (record { mode = Compile; file = file })
-
--- the words mean `compile` of a file that holds this text
-pub record Compiling (words : List (List ℕ)) (held : Holdings) (text : List ℕ) : Type 0 where
-  pub file : List ℕ
-  pub meaning : MeansCompile words file
-  pub contents : contents_of held file ≡ Some text
-
--- the words mean `compile` of a file that is missing
-pub record CompilingMissing (words : List (List ℕ)) (held : Holdings) : Type 0 where
-  pub file : List ℕ
-  pub meaning : MeansCompile words file
-  pub missing : IsMissing held file
-
--- How the call for a file ends, whatever its files tell: reading failed, for its cause; or there was no
--- memory to read; or a text was read, and what is due for it is delivered.
-pub data CompilesFile (held : Holdings) (file : List ℕ) (call : Seen) : Type 0 where
-  failed : Rose call.faults call.faults_after ⊎ IsMissing held file → Delivers call (refused ReadFault) → CompilesFile held file call
-  no_memory : call.status ≡ status.Memory → CompilesFile held file call
-  read : (text : List ℕ) → AreRead held file SOURCE_LIMIT text → ((answer : Answer) → IsDue text answer → Delivers call answer) → CompilesFile held file call

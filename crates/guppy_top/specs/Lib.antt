@@ -1,6 +1,9 @@
 pub mod Call
 pub mod Compile
+pub mod GraphFault
 pub mod Input
 pub mod Made
 pub mod Refusal
+pub mod RunDue
 pub mod Words
+pub mod WordsFile

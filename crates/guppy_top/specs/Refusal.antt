@@ -4,12 +4,21 @@ use Rattle.guppy_top.specs.declared.status.Status.{Status}
 use Rattle.guppy_top.specs.declared.status.Status.TheVariants as status
 use Rattle.guppy_top.specs.declared.refusal.SourceFault as fault
 use Rattle.guppy_top.specs.declared.refusal.SourceFault.TheVariants as f
+use Rattle.guppy_top.specs.declared.refusal.GraphFault as graph
+use Rattle.guppy_top.specs.declared.refusal.GraphFault.TheVariants as g
 use Rattle.guppy_top.specs.declared.refusal.Refusal.{Refusal}
-use Rattle.guppy_top.specs.declared.refusal.Refusal.TheVariants.{WordsNotUnderstood, ReadFault, TooLong, NotBuilt, Source}
+use Rattle.guppy_top.specs.declared.refusal.Refusal.TheVariants.{WordsNotUnderstood, ReadFault, TooLong, NotBuilt, Source, Graph}
 
 abbrev pub fault_text : fault.SourceFault → List ℕ
 fault_text f.GivenUp = codes "GivenUp"
 fault_text f.HeldAtReturn = codes "HeldAtReturn"
+
+abbrev pub graph_fault_text : graph.GraphFault → List ℕ
+graph_fault_text g.NotJson = codes "NotJson"
+graph_fault_text g.Top = codes "Top"
+graph_fault_text g.Version = codes "Version"
+graph_fault_text (g.Node number) = codes "Shape node " ++ decimal number
+graph_fault_text (g.Link number) = codes "Shape link " ++ decimal number
 
 abbrev pub refusal_text : Refusal → List ℕ
 refusal_text WordsNotUnderstood = codes "guppy: words not understood"
@@ -17,6 +26,7 @@ refusal_text ReadFault = codes "guppy: read fault"
 refusal_text TooLong = codes "guppy: input too long"
 refusal_text NotBuilt = codes "guppy: form not built yet"
 refusal_text (Source line fault) = codes "line " ++ (decimal line.0 ++ (codes ": " ++ fault_text fault))
+refusal_text (Graph fault) = codes "graph: " ++ graph_fault_text fault
 
 abbrev pub status_of : Refusal → Status
 status_of WordsNotUnderstood = status.Words
@@ -24,3 +34,4 @@ status_of ReadFault = status.ReadFault
 status_of TooLong = status.Refused
 status_of NotBuilt = status.Refused
 status_of (Source line fault) = status.Refused
+status_of (Graph fault) = status.Refused

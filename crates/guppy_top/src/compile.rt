@@ -10,47 +10,17 @@ ghost use Rattle.hg_json.specs.GraphText.{json};
 ghost use Rattle.guppy_top.specs.Refusal.{status_of};
 ghost use Rattle.guppy_top.specs.Made.{Makes, RefusesInput};
 
+use crate::mode_error::ModeError;
 use crate::refusal::{Refusal, SourceFault};
 use crate::status::Status;
 use gp_base::LineNo;
 use gp_lower::lower_thin;
 use gp_parse::{ThinLine, ThinLines, thin};
 use hg_json::write;
-use std::alloc::{AllocError, AllocFailed, Global};
+use std::alloc::Global;
 
 /// The most bytes that a source text has.
 pub const SOURCE_LIMIT: usize = 131_072;
-
-/// Why a source text wasn't compiled.
-#[derive(Debug, Drop)]
-pub enum CompileError {
-    /// It is refused.
-    Refused(Refusal),
-    /// There was no memory.
-    Memory,
-}
-
-impl From<AllocError> for CompileError {
-    ghost use Rattle.std.specs.Prelude.{◌≡◌};
-    ghost use Rattle.guppy_top.specs.declared.compile.CompileError.TheVariants.{Memory};
-
-    ghost from_gives = { λ _ e. e ≡ Memory };
-
-    fn from(_e: AllocError) -> CompileError {
-        CompileError::Memory
-    }
-}
-
-impl<T: Drop> From<AllocFailed<T>> for CompileError {
-    ghost use Rattle.std.specs.Prelude.{◌≡◌};
-    ghost use Rattle.guppy_top.specs.declared.compile.CompileError.TheVariants.{Memory};
-
-    ghost from_gives = { λ _ e. e ≡ Memory };
-
-    fn from(_e: AllocFailed<T>) -> CompileError {
-        CompileError::Memory
-    }
-}
 
 // The line of the function in a thin text, and the first line after `q = qubit()`.
 const FUNCTION_LINE: u32 = 5;
@@ -90,7 +60,7 @@ fn fault_of(lines: &ThinLines) -> Option<Refusal>
 }
 
 // The line that is written for a thin text with these lines.
-fn graph_line(alloc: Global, lines: &ThinLines) -> Result<Vec<u8>, CompileError>
+fn graph_line(alloc: Global, lines: &ThinLines) -> Result<Vec<u8>, ModeError>
     requires { length lines.now ≤ SOURCE_LIMIT }
     ensures given_up { (gates : List ThinGate) (next : ThinLine) (more : List ThinLine)
         → lines.now ≡ spent_lines gates next more
@@ -102,7 +72,7 @@ fn graph_line(alloc: Global, lines: &ThinLines) -> Result<Vec<u8>, CompileError>
     ensures status { RefusesInput result }
 {
     if let Some(refusal) = fault_of(lines) {
-        return Err(CompileError::Refused(refusal));
+        return Err(ModeError::Refused(refusal));
     }
     let graph = lower_thin(alloc, lines)?;
     let mut line = write(alloc, &graph)?;
@@ -111,15 +81,15 @@ fn graph_line(alloc: Global, lines: &ThinLines) -> Result<Vec<u8>, CompileError>
 }
 
 /// Compiles a source text to the line that holds the text of its graph.
-pub fn compile_text(alloc: Global, text: &[u8]) -> Result<Vec<u8>, CompileError>
+pub fn compile_text(alloc: Global, text: &[u8]) -> Result<Vec<u8>, ModeError>
     ensures due { (answer : Answer) → IsDue text.now answer → Makes result answer }
     ensures status { RefusesInput result }
 {
     if text.len() > SOURCE_LIMIT {
-        return Err(CompileError::Refused(Refusal::TooLong));
+        return Err(ModeError::Refused(Refusal::TooLong));
     }
     let Some(lines) = thin(alloc, text)? else {
-        return Err(CompileError::Refused(Refusal::NotBuilt));
+        return Err(ModeError::Refused(Refusal::NotBuilt));
     };
     graph_line(alloc, &lines)
 }

@@ -1,13 +1,15 @@
-//! The program `guppy`: compiles source texts of an integer profile of Guppy to program graphs.
+//! The program `guppy`: compiles source texts of an integer profile of Guppy to program graphs, and runs them.
 #![tactic(auto)]
 
 mod compile;
 mod guppy;
 mod input;
+mod mode_error;
 mod output;
 mod real_files;
 mod real_sink;
 mod refusal;
+mod run;
 mod status;
 #[cfg(test)]
 mod tests;

@@ -30,6 +30,38 @@ impl fmt::Display for SourceFault {
     }
 }
 
+/// A fault of a graph text. Entries are counted from 0.
+#[derive(Clone, Copy, Debug, PartialEq, Eq)]
+pub enum GraphFault {
+    /// It isn't JSON.
+    NotJson,
+    /// It isn't an object with a version, nodes and edges.
+    Top,
+    /// It has another version.
+    Version,
+    /// This entry of its nodes isn't a node.
+    Node(u64),
+    /// This entry of its edges isn't a link.
+    Link(u64),
+}
+
+impl fmt::Display for GraphFault {
+    ghost use Rattle.std.specs.Prelude.{Some};
+    ghost use Rattle.guppy_top.specs.Refusal.{graph_fault_text};
+
+    ghost output = { λ fault. Some (graph_fault_text fault) };
+
+    fn fmt<W: fmt::Write>(&self, f: &mut fmt::Formatter<W>) -> fmt::Result {
+        match self {
+            GraphFault::NotJson => f.write_str("NotJson"),
+            GraphFault::Top => f.write_str("Top"),
+            GraphFault::Version => f.write_str("Version"),
+            GraphFault::Node(number) => write!(f, "Shape node {number}"),
+            GraphFault::Link(number) => write!(f, "Shape link {number}"),
+        }
+    }
+}
+
 /// Why a call of the program is refused. Its text, with a line feed, is what standard error gets.
 #[derive(Clone, Copy, Debug, PartialEq, Eq)]
 pub enum Refusal {
@@ -39,10 +71,12 @@ pub enum Refusal {
     ReadFault,
     /// The input has more bytes than the mode's limit.
     TooLong,
-    /// The source text has a form that isn't served yet.
+    /// The input has a form that isn't served yet.
     NotBuilt,
     /// The source text has a fault on this line.
     Source(LineNo, SourceFault),
+    /// The graph text has this fault.
+    Graph(GraphFault),
 }
 
 impl fmt::Display for Refusal {
@@ -61,6 +95,7 @@ impl fmt::Display for Refusal {
                 let number = line.0;
                 write!(f, "line {number}: {fault}")
             }
+            Refusal::Graph(fault) => write!(f, "graph: {fault}"),
         }
     }
 }
@@ -73,7 +108,10 @@ impl Refusal {
         match self {
             Refusal::WordsNotUnderstood => Status::Words,
             Refusal::ReadFault => Status::ReadFault,
-            Refusal::TooLong | Refusal::NotBuilt | Refusal::Source(_, _) => Status::Refused,
+            Refusal::TooLong
+            | Refusal::NotBuilt
+            | Refusal::Source(_, _)
+            | Refusal::Graph(_) => Status::Refused,
         }
     }
 }

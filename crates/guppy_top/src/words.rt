@@ -11,6 +11,8 @@ use gp_base::Names;
 pub enum Mode {
     /// Compile a source text to a graph.
     Compile,
+    /// Run a graph.
+    Run,
 }
 
 /// What the words of a command line mean: a mode, and the name of the file that it reads.
@@ -28,6 +30,7 @@ fn mode_of(word: &str) -> Option<Mode>
 {
     match word {
         "compile" => Some(Mode::Compile),
+        "run" => Some(Mode::Run),
         _ => None,
     }
 }

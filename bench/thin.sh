@@ -1,0 +1,65 @@
+#!/usr/bin/env bash
+# Times `compile` on thin texts and `run` on thin graphs, with the proved program, beside python3's reading of
+# the same graph in the same run. Wants the program built (./guppy does that), bash and python3.
+#
+# For each size it prints the wall time in seconds, the peak memory in MiB, and for graphs the ratio of the
+# program's time to that of: python3 -c 'import json,sys; json.load(sys.stdin)'
+set -eu
+home=$(cd "$(dirname "${BASH_SOURCE[0]}")/.." && pwd)
+program=$home/crates/guppy_top/out/guppy_top
+[ -x "$program" ] || { echo "bench: build the program first, by ./guppy" >&2; exit 1; }
+work=$(mktemp -d)
+trap 'rm -rf "$work"' EXIT
+
+python3 - "$program" "$work" "$home/examples/coin.py" <<'PY'
+import json, os, resource, subprocess, sys, time
+
+program, work, example = sys.argv[1:]
+head = open(example).read().split("    h(q)\n")[0]
+
+
+def timed(words, stdin=None):
+    """The best of three wall times in seconds, and the peak memory in MiB."""
+    best, peak = None, 0
+    for _ in range(3):
+        source = open(stdin) if stdin else subprocess.DEVNULL
+        start = time.perf_counter()
+        child = subprocess.Popen(words, stdin=source, stdout=subprocess.DEVNULL)
+        _, status, usage = os.wait4(child.pid, 0)
+        took = time.perf_counter() - start
+        if status != 0:
+            sys.exit(f"bench: {words} ended with {status}")
+        best = took if best is None else min(best, took)
+        peak = max(peak, usage.ru_maxrss / 1024)
+    return best, peak
+
+
+def thin_graph(gates):
+    nodes = [{"op": "Module", "parent": 0},
+             {"ins": [], "name": "main", "op": "FuncDefn", "outs": [], "parent": 0},
+             {"op": "Input", "parent": 1, "types": []}, {"op": "Output", "parent": 1, "types": []}]
+    ops = ["alloc"] + [("h", "x")[k % 2] for k in range(gates)] + ["free"]
+    nodes += [{"op": "quantum." + op, "parent": 1} for op in ops]
+    edges = []
+    for k in range(5, len(nodes)):
+        edges += [[[k - 1, 0], [k, 0]], [[k - 1, None], [k, None]]]
+    graph = {"edges": edges, "nodes": nodes, "version": "profile-1"}
+    return json.dumps(graph, separators=(",", ":"))
+
+
+print("compile: lines  bytes    seconds  MiB")
+for lines in (1000, 2000, 4000, 5000):
+    body = "".join(f"    {'hx'[k % 2]}(q)\n" for k in range(lines - 1)) + "    discard(q)\n"
+    path = os.path.join(work, "thin.py")
+    open(path, "w").write(head + body)
+    took, peak = timed([program, "compile", path])
+    print(f"         {lines:5}  {len(head + body):7}  {took:7.3f}  {peak:5.0f}")
+
+print("run:     nodes  bytes      seconds  MiB    python3  ratio")
+for count in (10_000, 100_000, 200_000):
+    path = os.path.join(work, "thin.json")
+    open(path, "w").write(thin_graph(count - 6))
+    took, peak = timed([program, "run", path])
+    reading, _ = timed(["python3", "-c", "import json,sys; json.load(sys.stdin)"], path)
+    print(f"        {count:6}  {os.path.getsize(path):9}  {took:7.3f}  {peak:5.0f}  {reading:7.3f}  {took / reading:5.2f}")
+PY

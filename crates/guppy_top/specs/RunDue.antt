@@ -4,7 +4,7 @@ use Rattle.hg_graph.specs.Graph.{Graph}
 use Rattle.hg_json.specs.declared.reading.TheConstants.{MAX_TEXT_BYTES}
 use Rattle.hg_json.specs.Reading as json
 use Rattle.hg_json.specs.Reading.{graph_of}
-use Rattle.hg_run.specs.Thin.{IsThinGraph, text_of_run, main_run}
+use Rattle.hg_run.specs.ThinRun.{IsThinGraph, text_of_run, main_run}
 use Rattle.guppy_top.specs.declared.refusal.Refusal.{Refusal}
 use Rattle.guppy_top.specs.declared.refusal.Refusal.TheVariants as refusal
 use Rattle.guppy_top.specs.declared.refusal.GraphFault.TheVariants as fault

@@ -1,6 +1,6 @@
 //! The mode `run`: from a graph text to the graph that is run.
 
-ghost use Rattle.hg_run.specs.Thin.{IsThinGraph};
+ghost use Rattle.hg_run.specs.ThinRun.{IsThinGraph};
 ghost use Rattle.std.specs.Prelude.{IfOk};
 ghost use Rattle.guppy_top.specs.Call.{Answer};
 ghost use Rattle.guppy_top.specs.Made.{MakesRun, RefusesInput};

@@ -1,2 +1,3 @@
-mod Told
+mod ThinParts
 mod ThinText
+mod Told

@@ -4,7 +4,9 @@
 
 mod fault;
 mod running;
+mod shape;
 mod telling;
 
 pub use fault::RunFault;
 pub use running::run_thin;
+pub use shape::is_thin;

@@ -1,5 +1,5 @@
 -- What was written is read back.
-use Rattle.std.proofs.Common.{◌≡◌, ℕ, suc, ◌<◌, List, [], ◌∷◌, length, Option, Some, Result, Ok, refl, ap, arith}
+use Rattle.std.proofs.Common.{◌≡◌, ℕ, suc, ◌<◌, List, [], ◌∷◌, length, Option, Some, Ok, refl, ap, arith}
 use Rattle.std.specs.Prelude.{codes}
 use Rattle.std.specs.List.{All}
 use Rattle.std.proofs.lemmas.Bool.{lt-ltb, ne_eqb}
@@ -7,11 +7,10 @@ use Rattle.std.proofs.lemmas.List.Elements.{All-head, All-tail}
 use Rattle.std.proofs.lemmas.Str.{is_utf8-from_IsUtf8}
 use Rattle.serde_json.specs.Data.{Data, object}
 use Rattle.hg_graph.specs.Op.{Op, Module, FuncDefn, Input, Output, Alloc, H, X, Free}
-use Rattle.hg_graph.specs.Graph.{Node, Link, Ports, Order, Graph}
-use Rattle.hg_json.specs.Ends.{IsWithin}
-use Rattle.hg_json.specs.InHand.{IsInHand}
+use Rattle.hg_graph.specs.Graph.{Link, Ports, Order, Graph}
+use Rattle.hg_json.specs.InHand.{IsWithin, IsInHand}
 use Rattle.hg_json.specs.GraphText.{array_of, node_members, node_data, link_data, graph_data, json}
-use Rattle.hg_json.specs.Reading.{Refusal, BadNode, BadLink, no_types_at, op_of, func_defn, input, output, node_of, end_of, link_of, each, count, linked, entries_of, versioned, graph_in, value_of, graph_of}
+use Rattle.hg_json.specs.Reading.{Refusal, BadNode, BadLink, no_types_at, op_named, func_defn, input, output, node_of, end_of, link_of, each, count, linked, entries_of, versioned, graph_in, value_of, graph_of}
 use Rattle.hg_json.proofs.Compact.{read_compact, compact_utf8}
 use Rattle.hg_json.proofs.Plain.{graph_plain, graph_shallow}
 
@@ -21,7 +20,7 @@ each_back f data_of refusal P back k [] p = refl
 each_back f data_of refusal P back k (x ∷ xs) p = rw (back x (All-head P x xs p), each_back f data_of refusal P back (suc k) xs (All-tail P x xs p)) refl
 
 op_back : (total parent : ℕ) (op : Op) → parent < total → node_of total (object (node_members op parent)) ≡ Some (record { op = op; parent = parent })
-unfolding node_members node_of op_of func_defn input output no_types_at
+unfolding node_members node_of op_named func_defn input output no_types_at
 op_back total parent Module l = rw (lt-ltb parent total l) refl
 op_back total parent (FuncDefn name) l = rw (lt-ltb parent total l) refl
 op_back total parent Input l = rw (lt-ltb parent total l) refl

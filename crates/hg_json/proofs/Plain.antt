@@ -1,13 +1,12 @@
 -- The data of a graph in hand is plain and shallow.
-use Rattle.std.proofs.Common.{◌≡◌, ℕ, ◌<◌, ◌≤◌, ◌^◌, List, [], ◌∷◌, length, IsUtf8, refl, arith}
+use Rattle.std.proofs.Common.{ℕ, ◌<◌, ◌≤◌, ◌^◌, List, [], ◌∷◌, length, refl, arith}
 use Rattle.std.specs.List.{All}
 use Rattle.std.proofs.lemmas.List.Elements.{All-head, All-tail}
 use Rattle.json.proofs.Printed.Utf8.{IsUtf8-are_ascii}
 use Rattle.serde_json.specs.Data.{Data, items_depth, depth}
 use Rattle.hg_graph.specs.Op.{Op, Module, FuncDefn, Input, Output, Alloc, H, X, Free}
-use Rattle.hg_graph.specs.Graph.{Node, Link, Ports, Order, Graph}
-use Rattle.hg_json.specs.Ends.{IsWithin}
-use Rattle.hg_json.specs.InHand.{HasText, HasPorts, IsInHand}
+use Rattle.hg_graph.specs.Graph.{Link, Ports, Order, Graph}
+use Rattle.hg_json.specs.InHand.{IsWithin, HasText, HasPorts, IsInHand}
 use Rattle.hg_json.specs.GraphText.{array_of, node_members, node_data, link_data, graph_data}
 use Rattle.hg_json.proofs.Compact.{IsPlain, ArePlain}
 

@@ -1,11 +1,10 @@
 -- Writing the text of a graph.
-use Rattle.std.proofs.Common.{◌≡◌, ℕ, suc, ◌+◌, ◌<◌, ◌≤◌, List, [], ◌∷◌, ◌++◌, length, drop, get_or, map, nat_lt, Bool, true, false, Option, Some, None, refl, sym, ap, ◌∙◌, append_assoc, arith, slice_get}
+use Rattle.std.proofs.Common.{◌≡◌, ℕ, ◌+◌, ◌<◌, List, ◌∷◌, ◌++◌, length, drop, get_or, nat_lt, true, false, Option, Some, refl, sym, ap, ◌∙◌, append_assoc, arith, slice_get}
 use Rattle.std.specs.Prelude.{codes}
 use Rattle.std.proofs.lemmas.Bool.{lt-ltb}
-use Rattle.std.proofs.lemmas.List.{append-nil, drop_more, drop_all}
+use Rattle.std.proofs.lemmas.List.{drop_more}
 use Rattle.std.proofs.lemmas.Option.{get_or_from_slice_get, slice_get-get_or}
 use Rattle.serde_json.specs.Data.{Data, string, array, object, Items, no_members, member}
-use Rattle.serde_json.specs.View.{items_of}
 use Rattle.serde_json.specs.Written.{comma_if, compact_text, items_text, has_float}
 use Rattle.serde_json.proofs.OnLiterals.{serde_json_on_literals}
 use Rattle.hg_graph.specs.Op.{Op, Module, FuncDefn, Input, Output, Alloc, H, X, Free}
@@ -42,9 +41,6 @@ module _ {A : Type 0} (data_of : A → Data) (xs : List A) (k : ℕ) where
       let later : nat_lt 0 (k + 1) ≡ true = lt-ltb 0 (k + 1) (omega arith) in
       let first : out ++ items_text (nat_lt 0 k) (array_of data_of (drop k xs)) ≡ out ++ (c ++ (t ++ rest)) = ap (λ ys. out ++ items_text (nat_lt 0 k) (array_of data_of ys)) here in
       ap (λ b. new ++ items_text b (array_of data_of (drop (k + 1) xs))) later ∙ ap (λ s. s ++ rest) e ∙ append_assoc out (c ++ t) rest ∙ ap (λ s. out ++ s) (append_assoc c t rest) ∙ sym first ∙ so_far
-
-  pub all_written : (out total : List ℕ) → length xs ≤ k → out ++ items_text (nat_lt 0 k) (array_of data_of (drop k xs)) ≡ total → out ++ 93 ∷ [] ≡ total
-  all_written out total le so_far = ap (λ ys. out ++ items_text (nat_lt 0 k) (array_of data_of ys)) (sym (drop_all k xs le)) ∙ so_far
 
 -- the entries that the readers of a graph give
 

@@ -1,13 +1,17 @@
 -- What each graph in hand has.
 use Rattle.std.specs.Prelude.{◌<◌, ◌^◌, ℕ, length, All, IsUtf8, ⊤}
 use Rattle.hg_graph.specs.Op.{Op, FuncDefn}
-use Rattle.hg_graph.specs.Graph.{Node, Link, Ports, Order, Graph}
-use Rattle.hg_json.specs.Ends.{IsWithin}
+use Rattle.hg_graph.specs.Graph.{Link, Ports, Order, Graph}
 
 -- the name of a function is text
 abbrev pub HasText : Op → Type 0
 HasText (FuncDefn name) = IsUtf8 name
 HasText _ = ⊤
+
+-- the nodes of a link are among `total` nodes
+abbrev pub IsWithin : ℕ → Link → Type 0
+IsWithin total (Ports from to) = (from.node < total) × (to.node < total)
+IsWithin total (Order before after) = (before < total) × (after < total)
 
 -- the numbers of ports have 64 bits
 abbrev pub HasPorts : Link → Type 0

@@ -2,7 +2,7 @@
 -- it; of equal keys the last stands there, and a number is whole where it is one of 64 bits.
 use Rattle.std.specs.Prelude.{ℕ, suc, List, [], ◌∷◌, length, ⊤, Bool, Option, Some, None, Result, Ok, Err, nat_lt, codes, bytes_eq, ◌==◌, if◌then◌else◌}
 use Rattle.std.specs.Str.{is_utf8}
-use Rattle.serde_json.specs.Data.{Data, null, number, Items, no_items, item}
+use Rattle.serde_json.specs.Data.{Data, null, Items, no_items, item}
 use Rattle.serde_json.specs.Read.{read}
 use Rattle.serde_json.specs.Find.{get, as_str, as_array, as_number, as_u64}
 use Rattle.hg_graph.specs.Op.{Op, Module, FuncDefn, Input, Output, Alloc, H, X, Free}
@@ -59,8 +59,8 @@ unfoldable pub output : Data → Option Op
 output d = no_types_at (codes "types") d >>= λ _. Some Output
 
 -- the op of this name, with its keys
-unfoldable pub op_of : List ℕ → Data → Option Op
-op_of name d =
+unfoldable pub op_named : List ℕ → Data → Option Op
+op_named name d =
     if bytes_eq name (codes "Module") then Some Module else
     (if bytes_eq name (codes "FuncDefn") then func_defn d else
     (if bytes_eq name (codes "Input") then input d else
@@ -74,7 +74,7 @@ op_of name d =
 unfoldable pub node_of : ℕ → Data → Option Node
 node_of total d =
     text_at (codes "op") d >>= λ name. natural_at (codes "parent") d >>= λ parent.
-    when (nat_lt parent total) (op_of name d >>= λ op. Some (record { op = op; parent = parent }))
+    when (nat_lt parent total) (op_named name d >>= λ op. Some (record { op = op; parent = parent }))
 
 -- ---- links
 

@@ -19,15 +19,9 @@ use std::alloc::Global;
 fn func_defn(alloc: Global, value: &Value) -> Result<OpKind, Miss>
     ensures { Gives op_view result (spec.func_defn (view value.now)) }
 {
-    let Some(name) = text_at(value, "name") else {
-        return Err(Miss::Shape);
-    };
-    let Some(()) = no_types_at(value, "ins") else {
-        return Err(Miss::Shape);
-    };
-    let Some(()) = no_types_at(value, "outs") else {
-        return Err(Miss::Shape);
-    };
+    let name = text_at(value, "name").ok_or(Miss::Shape)?;
+    no_types_at(value, "ins").ok_or(Miss::Shape)?;
+    no_types_at(value, "outs").ok_or(Miss::Shape)?;
     let name = Name::new(alloc, name)?;
     Ok(OpKind::FuncDefn { name })
 }
@@ -37,9 +31,7 @@ fn func_defn(alloc: Global, value: &Value) -> Result<OpKind, Miss>
 fn input(value: &Value) -> Result<OpKind, Miss>
     ensures { Gives op_view result (spec.input (view value.now)) }
 {
-    let Some(()) = no_types_at(value, "types") else {
-        return Err(Miss::Shape);
-    };
+    no_types_at(value, "types").ok_or(Miss::Shape)?;
     Ok(OpKind::Input)
 }
 
@@ -48,16 +40,14 @@ fn input(value: &Value) -> Result<OpKind, Miss>
 fn output(value: &Value) -> Result<OpKind, Miss>
     ensures { Gives op_view result (spec.output (view value.now)) }
 {
-    let Some(()) = no_types_at(value, "types") else {
-        return Err(Miss::Shape);
-    };
+    no_types_at(value, "types").ok_or(Miss::Shape)?;
     Ok(OpKind::Output)
 }
 
 // The op of this name, with its keys.
-#[tactic(auto, unfolding(crate::specs::Reading::op_of))]
-fn op_of(alloc: Global, name: &str, value: &Value) -> Result<OpKind, Miss>
-    ensures { Gives op_view result (spec.op_of name.now (view value.now)) }
+#[tactic(auto, unfolding(crate::specs::Reading::op_named))]
+fn op_named(alloc: Global, name: &str, value: &Value) -> Result<OpKind, Miss>
+    ensures { Gives op_view result (spec.op_named name.now (view value.now)) }
 {
     match name {
         "Module" => Ok(OpKind::Module),
@@ -78,16 +68,12 @@ pub fn node_of(alloc: Global, total: u64, value: &Value) -> Result<Node, Miss>
     ensures gives { Gives node_view result (spec.node_of total (view value.now)) }
     ensures parent_in { IfOk result (λ node. node.parent.0 < total) }
 {
-    let Some(name) = text_at(value, "op") else {
-        return Err(Miss::Shape);
-    };
-    let Some(parent) = natural_at(value, "parent") else {
-        return Err(Miss::Shape);
-    };
+    let name = text_at(value, "op").ok_or(Miss::Shape)?;
+    let parent = natural_at(value, "parent").ok_or(Miss::Shape)?;
     if parent >= total {
         return Err(Miss::Shape);
     }
-    let op = op_of(alloc, name, value)?;
+    let op = op_named(alloc, name, value)?;
     Ok(Node {
         op,
         parent: NodeId(parent),

@@ -7,7 +7,7 @@ ghost use Rattle.hg_graph.specs.View.{link_view};
 ghost use Rattle.hg_json.specs.Reading as spec;
 ghost use Rattle.hg_json.specs.Reading.{BadNode, BadLink, or_refuse};
 ghost use Rattle.hg_json.specs.Answers.{Answers};
-ghost use Rattle.hg_json.specs.Ends.{IsWithin};
+ghost use Rattle.hg_json.specs.InHand.{IsWithin};
 
 use crate::fault::{JsonFault, Miss};
 use crate::links::link_of;
@@ -125,15 +125,9 @@ fn versioned(
 fn graph_in(alloc: Global, value: &Value) -> Result<Graph, JsonFault>
     ensures { Answers (λ made. made) result (spec.graph_in (seen value.now)) }
 {
-    let Some(version) = text_at(value, "version") else {
-        return Err(JsonFault::Top);
-    };
-    let Some(nodes) = items_at(value, "nodes") else {
-        return Err(JsonFault::Top);
-    };
-    let Some(edges) = items_at(value, "edges") else {
-        return Err(JsonFault::Top);
-    };
+    let version = text_at(value, "version").ok_or(JsonFault::Top)?;
+    let nodes = items_at(value, "nodes").ok_or(JsonFault::Top)?;
+    let edges = items_at(value, "edges").ok_or(JsonFault::Top)?;
     versioned(alloc, version, nodes, edges)
 }
 

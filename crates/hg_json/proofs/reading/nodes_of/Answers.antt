@@ -1,10 +1,9 @@
-use Rattle.std.proofs.Common.{◌≡◌, ◌++◌, ◌∷◌, [], ◌<◌, map, sym, arith}
+use Rattle.std.proofs.Common.{◌≡◌, ◌++◌, ◌∷◌, [], ◌<◌, map, arith}
 use Rattle.std.proofs.lemmas.Result.{err_from_is_err_and}
 use Rattle.std.proofs.lemmas.List.{map_push, length_push}
 use Rattle.std.proofs.lemmas.List.Elements.{All-push}
-use Rattle.serde_json.specs.View.{items_view}
 use Rattle.hg_graph.specs.NodeView.{node_view}
-use Rattle.hg_json.specs.Reading.{BadNode, node_of, count}
+use Rattle.hg_json.specs.Reading.{BadNode, node_of}
 use Rattle.hg_json.proofs.Pieces.{count_items}
 use Rattle.hg_json.proofs.Turns.{goes_on, ends, is_done}
 use Rattle.hg_json.proofs.reading.nodes_of.Goals as goal

@@ -1,0 +1,97 @@
+//! Texts that are read, refused and written.
+
+use crate::fault::JsonFault;
+use crate::laws::written_graphs_read_back;
+use crate::reading::{MAX_TEXT_BYTES, read};
+use crate::writing::write;
+use hg_graph::{Link, NodeId, OpKind, Port};
+use std::test::Fail;
+
+// A function that allocates a qubit and frees it, as graphs are written.
+const QUBIT: &str =
+    r#"{"edges":[[[4,0],[5,0]],[[4,null],[5,null]]],"nodes":[{"op":"Module","parent":0},{"ins":[],"name":"main","op":"FuncDefn","outs":[],"parent":0},{"op":"Input","parent":1,"types":[]},{"op":"Output","parent":1,"types":[]},{"op":"quantum.alloc","parent":1},{"op":"quantum.free","parent":1}],"version":"profile-1"}"#;
+
+#[test]
+fn reads_and_writes_a_graph(rt: HostRuntime) -> Result<(), Fail> {
+    let graph = read(rt.alloc(), QUBIT.as_bytes())?;
+    assert_eq!(rt; graph.node_count(), 6);
+    assert!(rt;
+        matches!(graph.op(NodeId(1)), OpKind::FuncDefn { name } if name.as_str() == "main")
+    );
+    assert_eq!(rt; graph.parent(NodeId(5)), NodeId(1));
+    assert_eq!(rt; graph.link_count(), 2);
+    let from = Port {
+        node: NodeId(4),
+        index: 0,
+    };
+    let to = Port {
+        node: NodeId(5),
+        index: 0,
+    };
+    assert_eq!(rt; graph.link_at(0), Some(Link::Ports(from, to)));
+    assert_eq!(rt; graph.link_at(1), Some(Link::Order(NodeId(4), NodeId(5))));
+    let text = write(rt.alloc(), &graph)?;
+    assert_eq!(rt; text.as_slice(), QUBIT.as_bytes());
+    written_graphs_read_back();
+    Ok(())
+}
+
+// A parent may have a greater number, further keys are ignored, and of equal keys the last stands.
+#[test]
+fn reads_the_last_of_equal_keys(rt: HostRuntime) -> Result<(), Fail> {
+    let text = r#" {"version": "profile-1", "edges": [], "by": null, "nodes":
+        [{"op": "quantum.y", "parent": 1, "types": 3, "op": "quantum.x"}, {"op": "Module", "parent": 1}]} "#;
+    let graph = read(rt.alloc(), text.as_bytes())?;
+    assert_eq!(rt; graph.node_count(), 2);
+    assert!(rt; matches!(graph.op(NodeId(0)), OpKind::X));
+    assert_eq!(rt; graph.parent(NodeId(0)), NodeId(1));
+    Ok(())
+}
+
+#[test]
+fn refuses_what_is_no_graph(rt: HostRuntime) -> Result<(), Fail> {
+    for (text, fault) in [
+        ("{", JsonFault::NotJson),
+        ("[]", JsonFault::Top),
+        (
+            r#"{"version":"profile-2","nodes":[],"edges":[]}"#,
+            JsonFault::Top,
+        ),
+        (
+            r#"{"version":"profile-2","nodes":[1],"edges":[2]}"#,
+            JsonFault::Version,
+        ),
+        (
+            r#"{"version":"profile-1","nodes":[{"op":"Module","parent":0},{"op":"Module","parent":2}],"edges":[1]}"#,
+            JsonFault::Node(1),
+        ),
+        (
+            r#"{"version":"profile-1","nodes":[{"op":"Input","parent":0,"types":["qubit"]}],"edges":[]}"#,
+            JsonFault::Node(0),
+        ),
+        (
+            r#"{"version":"profile-1","nodes":[{"op":"quantum.y","parent":0}],"edges":[]}"#,
+            JsonFault::Node(0),
+        ),
+        (
+            r#"{"version":"profile-1","nodes":[{"op":"Module","parent":0}],"edges":[[[0,0],[0,1]],[[0,0],[0,null]]]}"#,
+            JsonFault::Link(1),
+        ),
+        (
+            r#"{"version":"profile-1","nodes":[{"op":"Module","parent":0}],"edges":[[[0,0],[1,0]]]}"#,
+            JsonFault::Link(0),
+        ),
+    ] {
+        assert!(rt; text.len() <= MAX_TEXT_BYTES);
+        match read(rt.alloc(), text.as_bytes()) {
+            Ok(_) => assert!(rt; false, "{text} was read"),
+            Err(found) => assert_eq!(rt; found, fault, "at {text}"),
+        }
+    }
+    Ok(())
+}
+
+#[test]
+fn refuses_bytes_that_are_no_text(rt: HostRuntime) {
+    assert!(rt; matches!(read(rt.alloc(), b"\"\xff\""), Err(JsonFault::NotJson)));
+}

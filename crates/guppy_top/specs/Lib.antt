@@ -3,4 +3,5 @@ pub mod Compile
 pub mod Input
 pub mod Made
 pub mod Refusal
+pub mod Status
 pub mod Words

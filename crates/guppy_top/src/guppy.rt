@@ -6,9 +6,8 @@ ghost use Rattle.gp_parse.specs.declared.thin_text.ThinLine.{ThinLine};
 ghost use Rattle.hg_graph.specs.Graph.{Graph};
 ghost use Rattle.hg_graph.specs.Thin.{ThinGate};
 ghost use Rattle.gp_lower.specs.Thin.{gate_lines, complete_lines};
-ghost use Rattle.guppy_top.specs.declared.compile.TheConstants.{SOURCE_LIMIT};
 ghost use Rattle.guppy_top.specs.Call.{seen, refused, done, Answered, Delivers, Settles};
-ghost use Rattle.guppy_top.specs.Compile.{IsThin, IsNotThin, spent_lines, given_up_at, held_at_return_at, IsGraphOf, MeansCompile, Compiling, CompilingMissing, CompilesFile};
+ghost use Rattle.guppy_top.specs.Compile.{source_limit, IsThin, IsNotThin, spent_lines, given_up_at, held_at_return_at, IsGraphOf, MeansCompile, Compiling, CompilingMissing, CompilesFile};
 ghost use Rattle.hg_json.specs.GraphText.{json};
 ghost use Rattle.guppy_top.specs.Words.{meaning_of};
 
@@ -84,7 +83,7 @@ pub fn guppy<F: Files, O: Sink, E: Sink>(
 
     // `compile`: the five forms of a text, of which each text has exactly one.
     ensures too_long { (text : List ℕ)
-        → Compiling words.now (F.held files.old) text → SOURCE_LIMIT < length text → Settles
+        → Compiling words.now (F.held files.old) text → source_limit < length text → Settles
         (seen result (F.faults files.old) (F.faults files.new)
         (O.bytes out.old) (O.bytes out.new) (E.bytes err.old) (E.bytes err.new))
         (refused Refusal.TooLong) }

@@ -6,14 +6,12 @@ use Rattle.gp_base.specs.Outside.{Holdings, contents_of, IsMissing, Rose, Wrote}
 use Rattle.hg_graph.specs.Thin.{ThinGate, thin_graph}
 use Rattle.hg_graph.proofs.ThinLinked.{thin_graphs_are_linked}
 use Rattle.hg_graph.proofs.ThinRuns.{thin_graphs_run}
-use Rattle.guppy_top.specs.declared.compile.TheConstants.{SOURCE_LIMIT}
 use Rattle.guppy_top.specs.declared.status.Status.TheVariants as status
 use Rattle.guppy_top.specs.declared.refusal.Refusal.TheVariants.{TooLong}
 use Rattle.guppy_top.specs.Call.{Answer, Seen, refused, Answered, CutShort, Delivers, Settles}
-use Rattle.hg_json.specs.declared.reading.TheConstants.{MAX_TEXT_BYTES}
-use Rattle.guppy_top.specs.Compile.{IsDue, too_long, IsGraphOf}
+use Rattle.guppy_top.specs.Compile.{source_limit, IsDue, too_long, IsGraphOf}
 use Rattle.guppy_top.specs.RunDue as run
-use Rattle.guppy_top.specs.RunDue.{IsDueRun}
+use Rattle.guppy_top.specs.RunDue.{graph_text_limit, IsDueRun}
 use Rattle.guppy_top.specs.WordsFile.{Means, AnswersFile, failed, no_memory, read}
 use Rattle.guppy_top.specs.Input.{AreRead}
 use Rattle.guppy_top.specs.Words.{Meaning, meaning_of}
@@ -55,18 +53,18 @@ longer limit text long =
     let count : length (front limit text) ≡ limit + 1 = length-take-le (limit + 1) text (omega arith) in
     omega arith
 
-pub due-whole : (text : List ℕ) (answer : Answer) → length text ≤ SOURCE_LIMIT → IsDue text answer → IsDue (front SOURCE_LIMIT text) answer
-due-whole text answer within due = subst (λ t. IsDue t answer) (whole SOURCE_LIMIT text within) due
+pub due-whole : (text : List ℕ) (answer : Answer) → length text ≤ source_limit → IsDue text answer → IsDue (front source_limit text) answer
+due-whole text answer within due = subst (λ t. IsDue t answer) (whole source_limit text within) due
 
-pub due-too_long : (text : List ℕ) → SOURCE_LIMIT < length text → IsDue (front SOURCE_LIMIT text) (refused TooLong)
-due-too_long text long = too_long (longer SOURCE_LIMIT text long)
+pub due-too_long : (text : List ℕ) → source_limit < length text → IsDue (front source_limit text) (refused TooLong)
+due-too_long text long = too_long (longer source_limit text long)
 
 -- what is due for a graph text is due for the bytes that are read of it
-due-front : (text : List ℕ) (answer : Answer) → length text ≤ MAX_TEXT_BYTES → IsDueRun text answer → IsDueRun (front MAX_TEXT_BYTES text) answer
-due-front text answer within due = subst (λ t. IsDueRun t answer) (whole MAX_TEXT_BYTES text within) due
+due-front : (text : List ℕ) (answer : Answer) → length text ≤ graph_text_limit → IsDueRun text answer → IsDueRun (front graph_text_limit text) answer
+due-front text answer within due = subst (λ t. IsDueRun t answer) (whole graph_text_limit text within) due
 
-pub due-run : (text : List ℕ) (answer : Answer) → IsDueRun text answer → IsDueRun (front MAX_TEXT_BYTES text) answer
-due-run text answer (run.too_long long) = run.too_long (longer MAX_TEXT_BYTES text long)
+pub due-run : (text : List ℕ) (answer : Answer) → IsDueRun text answer → IsDueRun (front graph_text_limit text) answer
+due-run text answer (run.too_long long) = run.too_long (longer graph_text_limit text long)
 due-run text answer (run.no_graph within why e) = due-front text _ within (run.no_graph within why e)
 due-run text answer (run.not_built g t n) = due-front text _ t.within (run.not_built g t n)
 due-run text answer (run.runs g t n) = due-front text _ t.within (run.runs g t n)

@@ -8,21 +8,24 @@ use Rattle.hg_graph.specs.Graph.{Graph}
 use Rattle.hg_graph.specs.Rules.{InputsLinkedOnce, LinearOutputsLinkedOnce}
 use Rattle.hg_graph.specs.Thin.{ThinGate, thin_graph}
 use Rattle.gp_lower.specs.Thin.{gate_lines, complete_lines, RunsGates}
-use Rattle.guppy_top.specs.declared.compile.TheConstants.{SOURCE_LIMIT}
 use Rattle.guppy_top.specs.declared.refusal.Refusal.TheVariants.{TooLong, NotBuilt, Source}
 use Rattle.guppy_top.specs.declared.refusal.SourceFault.TheVariants.{GivenUp, HeldAtReturn}
 use Rattle.guppy_top.specs.declared.refusal.Refusal.{Refusal}
 use Rattle.guppy_top.specs.Call.{Answer, refused, done}
 use Rattle.hg_json.specs.GraphText.{json}
 
+-- the most bytes that a source text has
+abbrev pub source_limit : ℕ
+source_limit = 131072
+
 -- a text within the limit whose lines after `q = qubit()` are these
 pub record IsThin (text : List ℕ) (lines : List ThinLine) : Type 0 where
-  pub within : length text ≤ SOURCE_LIMIT
+  pub within : length text ≤ source_limit
   pub spelled : text ≡ thin_text lines
 
 -- a text within the limit that isn't thin
 pub record IsNotThin (text : List ℕ) : Type 0 where
-  pub within : length text ≤ SOURCE_LIMIT
+  pub within : length text ≤ source_limit
   pub other : (lines : List ThinLine) → text ≢ thin_text lines
 
 -- whether a line gives the qubit up
@@ -45,7 +48,7 @@ held_at_return_at line = Source (record { 0 = line }) HeldAtReturn
 -- What is due for a text. The lines after `q = qubit()` begin with line 7 of a thin text, and its `def` is
 -- on line 5. A text has exactly one of these five forms.
 pub data IsDue (text : List ℕ) : Answer → Type 0 where
-  too_long : SOURCE_LIMIT < length text → IsDue text (refused TooLong)
+  too_long : source_limit < length text → IsDue text (refused TooLong)
   not_built : IsNotThin text → IsDue text (refused NotBuilt)
   given_up : (gates : List ThinGate) (next : ThinLine) (more : List ThinLine)
       → IsThin text (spent_lines gates next more) → IsDue text (refused (given_up_at (8 + length gates)))

@@ -5,5 +5,6 @@ pub mod Input
 pub mod Made
 pub mod Refusal
 pub mod RunDue
+pub mod Status
 pub mod Words
 pub mod WordsFile

@@ -6,11 +6,9 @@ ghost use Rattle.gp_parse.specs.declared.thin_text.ThinLine.{ThinLine};
 ghost use Rattle.hg_graph.specs.Graph.{Graph};
 ghost use Rattle.hg_graph.specs.Thin.{ThinGate};
 ghost use Rattle.gp_lower.specs.Thin.{gate_lines, complete_lines};
-ghost use Rattle.guppy_top.specs.declared.compile.TheConstants.{SOURCE_LIMIT};
 ghost use Rattle.guppy_top.specs.Call.{Answer, seen, refused, done, Answered, Delivers, Settles};
-ghost use Rattle.hg_json.specs.declared.reading.TheConstants.{MAX_TEXT_BYTES};
-ghost use Rattle.guppy_top.specs.Compile.{IsThin, IsNotThin, spent_lines, given_up_at, held_at_return_at, IsDue, IsGraphOf};
-ghost use Rattle.guppy_top.specs.RunDue.{IsDueRun};
+ghost use Rattle.guppy_top.specs.Compile.{source_limit, IsThin, IsNotThin, spent_lines, given_up_at, held_at_return_at, IsDue, IsGraphOf};
+ghost use Rattle.guppy_top.specs.RunDue.{graph_text_limit, IsDueRun};
 ghost use Rattle.guppy_top.specs.WordsFile.{Means, FileHolds, FileMissing, AnswersFile};
 ghost use Rattle.hg_json.specs.GraphText.{json};
 ghost use Rattle.guppy_top.specs.Words.{meaning_of};
@@ -36,7 +34,7 @@ fn compile<F: Files, O: Sink, E: Sink>(
     out: &mut O,
     err: &mut E,
 ) -> Status
-    ensures compiled { AnswersFile IsDue SOURCE_LIMIT (F.held files.old) file.now
+    ensures compiled { AnswersFile IsDue source_limit (F.held files.old) file.now
         (seen result (F.faults files.old) (F.faults files.new)
         (O.bytes out.old) (O.bytes out.new) (E.bytes err.old) (E.bytes err.new)) }
     ensures read_fault { result ≡ Status.ReadFault
@@ -68,7 +66,7 @@ fn run<F: Files, O: Sink, E: Sink>(
     out: &mut O,
     err: &mut E,
 ) -> Status
-    ensures ran { AnswersFile IsDueRun MAX_TEXT_BYTES (F.held files.old) file.now
+    ensures ran { AnswersFile IsDueRun graph_text_limit (F.held files.old) file.now
         (seen result (F.faults files.old) (F.faults files.new)
         (O.bytes out.old) (O.bytes out.new) (E.bytes err.old) (E.bytes err.new)) }
     ensures read_fault { result ≡ Status.ReadFault
@@ -128,7 +126,7 @@ pub fn guppy<F: Files, O: Sink, E: Sink>(
 
     // `compile`: the five forms of a text, of which each text has exactly one.
     ensures too_long { (text : List ℕ)
-        → FileHolds Mode.Compile words.now (F.held files.old) text → SOURCE_LIMIT < length text → Settles
+        → FileHolds Mode.Compile words.now (F.held files.old) text → source_limit < length text → Settles
         (seen result (F.faults files.old) (F.faults files.new)
         (O.bytes out.old) (O.bytes out.new) (E.bytes err.old) (E.bytes err.new))
         (refused Refusal.TooLong) }
@@ -164,11 +162,11 @@ pub fn guppy<F: Files, O: Sink, E: Sink>(
 
     // Both over any files, also such as don't tell their contents.
     ensures any_files { (file : List ℕ)
-        → Means words.now Mode.Compile file → AnswersFile IsDue SOURCE_LIMIT (F.held files.old) file
+        → Means words.now Mode.Compile file → AnswersFile IsDue source_limit (F.held files.old) file
         (seen result (F.faults files.old) (F.faults files.new)
         (O.bytes out.old) (O.bytes out.new) (E.bytes err.old) (E.bytes err.new)) }
     ensures run_any_files { (file : List ℕ)
-        → Means words.now Mode.Run file → AnswersFile IsDueRun MAX_TEXT_BYTES (F.held files.old) file
+        → Means words.now Mode.Run file → AnswersFile IsDueRun graph_text_limit (F.held files.old) file
         (seen result (F.faults files.old) (F.faults files.new)
             (O.bytes out.old) (O.bytes out.new) (E.bytes err.old) (E.bytes err.new)) }
 

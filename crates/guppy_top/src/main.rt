@@ -42,11 +42,11 @@ fn words_of<R: Env + AllocGlobal>(rt: &R) -> Result<Names, AllocError> {
 fn main(rt: HostRuntime) -> ExitCode {
     let alloc = rt.alloc();
     let Ok(words) = words_of(&rt) else {
-        return ExitCode::from(Status::Memory as u8);
+        return ExitCode::from(Status::Memory.code());
     };
     let mut files = RealFiles::new(&rt);
     let mut out = RealSink::new(rt.stdout());
     let mut err = RealSink::new(rt.stderr());
     let status = guppy::guppy(alloc, &words, &mut files, &mut out, &mut err);
-    ExitCode::from(status as u8)
+    ExitCode::from(status.code())
 }

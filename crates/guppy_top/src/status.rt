@@ -1,5 +1,7 @@
 //! How a call of the program ends.
 
+ghost use Rattle.std.specs.Prelude.{◌≡◌};
+
 /// How a call of the program ends. The number is the status of the process.
 #[derive(Clone, Copy, Debug, PartialEq, Eq)]
 pub enum Status {
@@ -17,4 +19,15 @@ pub enum Status {
     Memory = 5,
     /// A run ended before it returned.
     Stopped = 6,
+}
+
+impl Status {
+    ghost use Rattle.guppy_top.specs.Status.{code_of};
+
+    /// The number that the process ends with.
+    pub fn code(self) -> u8
+        ensures { result ≡ code_of self }
+    {
+        self as u8
+    }
 }

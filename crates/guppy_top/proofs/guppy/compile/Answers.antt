@@ -1,15 +1,14 @@
-use Rattle.guppy_top.specs.declared.compile.TheConstants.{SOURCE_LIMIT}
-use Rattle.guppy_top.specs.Compile.{IsDue}
+use Rattle.guppy_top.specs.Compile.{source_limit, IsDue}
 use Rattle.guppy_top.proofs.Delivered.{read-out, read-err, refused-not}
 use Rattle.guppy_top.proofs.guppy.compile.Goals as goal
 
 pub returns-in-Ok-compile_text-clause-compiled : goal.returns-in-Ok-compile_text-clause-compiled
 returns-in-Ok-compile_text-clause-compiled g c =
-    read-out IsDue SOURCE_LIMIT _ _ _ _ _ _ _ _ _ _ c.in-Ok-compile_text.line.items _ c.in-Ok.ensures.read c.deref.ensures.value c.in-Ok-compile_text.ensures.due c.deref-in-Ok-compile_text.ensures.value c.send.ensures.sent
+    read-out IsDue source_limit _ _ _ _ _ _ _ _ _ _ c.in-Ok-compile_text.line.items _ c.in-Ok.ensures.read c.deref.ensures.value c.in-Ok-compile_text.ensures.due c.deref-in-Ok-compile_text.ensures.value c.send.ensures.sent
 
 pub returns-in-Err-Refused-clause-compiled : goal.returns-in-Err-Refused-clause-compiled
 returns-in-Err-Refused-clause-compiled g c =
-    read-err IsDue SOURCE_LIMIT _ _ _ _ _ _ _ _ _ _ c.in-Err-Refused.refusal c.in-Ok.ensures.read c.deref.ensures.value (rw c.in-Err-Refused.field-0-is at c.in-Err-Refused.ensures.due) c.refuse-in-Err-Refused.ensures.sent
+    read-err IsDue source_limit _ _ _ _ _ _ _ _ _ _ c.in-Err-Refused.refusal c.in-Ok.ensures.read c.deref.ensures.value (rw c.in-Err-Refused.field-0-is at c.in-Err-Refused.ensures.due) c.refuse-in-Err-Refused.ensures.sent
 
 pub returns-in-Err-Refused-clause-read_fault : goal.returns-in-Err-Refused-clause-read_fault
 returns-in-Err-Refused-clause-read_fault g c e =

@@ -1,0 +1,3 @@
+mod ThinParts
+mod ThinText
+mod Told

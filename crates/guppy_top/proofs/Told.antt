@@ -7,7 +7,7 @@ use Rattle.hg_graph.specs.Thin.{ThinGate, thin_graph}
 use Rattle.hg_graph.proofs.ThinLinked.{thin_graphs_are_linked}
 use Rattle.hg_graph.proofs.ThinRuns.{thin_graphs_run}
 use Rattle.guppy_top.specs.declared.status.Status.TheVariants as status
-use Rattle.guppy_top.specs.declared.refusal.Refusal.TheVariants.{TooLong}
+use Rattle.guppy_top.specs.declared.refusal.Refusal.TheVariants.{ReadFault, TooLong}
 use Rattle.guppy_top.specs.Call.{Answer, Seen, refused, Answered, CutShort, Delivers, Settles}
 use Rattle.guppy_top.specs.Compile.{source_limit, IsDue, too_long, IsGraphOf}
 use Rattle.guppy_top.specs.RunDue as run
@@ -88,3 +88,21 @@ same_file m words mode file e means_it = let same : Some m ≡ Some (record { mo
 
 pub same_mode : (m : Meaning) (words : List (List ℕ)) (mode : Mode) (file : List ℕ) → Some m ≡ meaning_of words → Means words mode file → m.mode ≡ mode
 same_mode m words mode file e means_it = let same : Some m ≡ Some (record { mode = mode; file = file }) = e ∙ means_it in cc
+
+-- ---- a missing file
+
+no_text : (limit : ℕ) (held : Holdings) (file bytes : List ℕ) → IsMissing held file → AreRead held file limit bytes → ⊥
+no_text limit None file bytes missing are_read = missing
+no_text limit (Some holds) file bytes missing are_read =
+    let none : Some bytes ≡ None = sym are_read ∙ ap (option_map (front limit)) missing in
+    cc
+
+-- the call for a missing file delivers that
+pub missed : (Due : List ℕ → Answer → Type 0) (limit : ℕ) (held : Holdings) (file : List ℕ) (call : Seen) → IsMissing held file
+    → AnswersFile Due limit held file call → (call.status ≡ status.Memory → Wrote call.out call.out_after [] × Wrote call.err call.err_after [])
+    → Delivers call (refused ReadFault)
+missed Due limit held file call missing (failed cause delivered) memory = delivered
+missed Due limit held file call missing (no_memory none) memory =
+    let unwritten = memory none in
+    inr (record { status = inr none; out = (0, unwritten.0); err = (0, unwritten.1) })
+missed Due limit held file call missing (read bytes are_read delivers) memory = absurd (no_text limit held file bytes missing are_read)

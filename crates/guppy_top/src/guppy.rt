@@ -157,7 +157,7 @@ pub fn guppy<F: Files, O: Sink, E: Sink>(
     ensures run { (text : List ℕ) (answer : Answer)
         → FileHolds Mode.Run words.now (F.held files.old) text → IsDueRun text answer → Settles
         (seen result (F.faults files.old) (F.faults files.new)
-            (O.bytes out.old) (O.bytes out.new) (E.bytes err.old) (E.bytes err.new))
+        (O.bytes out.old) (O.bytes out.new) (E.bytes err.old) (E.bytes err.new))
         answer }
 
     // Both over any files, also such as don't tell their contents.
@@ -168,7 +168,7 @@ pub fn guppy<F: Files, O: Sink, E: Sink>(
     ensures run_any_files { (file : List ℕ)
         → Means words.now Mode.Run file → AnswersFile IsDueRun graph_text_limit (F.held files.old) file
         (seen result (F.faults files.old) (F.faults files.new)
-            (O.bytes out.old) (O.bytes out.new) (E.bytes err.old) (E.bytes err.new)) }
+        (O.bytes out.old) (O.bytes out.new) (E.bytes err.old) (E.bytes err.new)) }
 
     // Writing and memory.
     ensures write_fault { result ≡ Status.WriteFault

@@ -108,10 +108,8 @@ impl Refusal {
         match self {
             Refusal::WordsNotUnderstood => Status::Words,
             Refusal::ReadFault => Status::ReadFault,
-            Refusal::TooLong
-            | Refusal::NotBuilt
-            | Refusal::Source(_, _)
-            | Refusal::Graph(_) => Status::Refused,
+            Refusal::TooLong | Refusal::NotBuilt | Refusal::Source(_, _) | Refusal::Graph(_) =>
+                Status::Refused,
         }
     }
 }

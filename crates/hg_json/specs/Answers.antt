@@ -12,6 +12,7 @@ abbrev pub Finds : {A B : Type 0} → (A → B) → Option A → Option B → Ty
 Finds view None found = found ≡ None
 Finds view (Some x) found = found ≡ Some (view x)
 
+-- nothing was to be found, unless memory ran out
 abbrev pub Misses : {B : Type 0} → Miss → Option B → Type 0
 Misses miss.Memory found = ⊤
 Misses miss.Shape found = found ≡ None
@@ -21,6 +22,7 @@ abbrev pub Gives : {A B : Type 0} → (A → B) → Result A Miss → Option B �
 Gives view (Ok x) found = found ≡ Some (view x)
 Gives view (Err e) found = Misses e found
 
+-- this refusal was to be read, unless memory ran out
 abbrev pub Refuses : {B : Type 0} → JsonFault → Result B Refusal → Type 0
 Refuses fault.NotJson read = read ≡ Err NotJson
 Refuses fault.Top read = read ≡ Err Top

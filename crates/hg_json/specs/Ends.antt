@@ -5,6 +5,7 @@ use Rattle.hg_json.specs.declared.links.End as declared
 use Rattle.hg_json.specs.declared.links.End.TheVariants as the_end
 use Rattle.hg_json.specs.Reading.{End, AtPort, AtNode}
 
+-- the end that a value stands for
 abbrev pub end_view : declared.End → End
 end_view (the_end.Port port) = AtPort (port_view port)
 end_view (the_end.Node node) = AtNode node.0

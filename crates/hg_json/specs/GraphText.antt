@@ -7,9 +7,11 @@ use Rattle.serde_json.specs.Written.{compact_text}
 use Rattle.hg_graph.specs.Op.{Op, Module, FuncDefn, Input, Output, Alloc, H, X, Free}
 use Rattle.hg_graph.specs.Graph.{Node, Link, Ports, Order, Graph}
 
+-- the data of each entry
 abbrev pub array_of : {A : Type 0} → (A → Data) → List A → Items
 array_of f xs = items_of (map f xs)
 
+-- a whole number
 abbrev pub natural : ℕ → Data
 natural n = number (unsigned n)
 
@@ -19,12 +21,15 @@ no_types = array no_items
 
 -- ---- the members of a node: a shape for each list of keys
 
+-- an op without further keys
 abbrev pub bare : List ℕ → ℕ → Members
 bare op parent = member (codes "op") (string op) (member (codes "parent") (natural parent) no_members)
 
+-- an op with a list of types
 abbrev pub typed : List ℕ → ℕ → Members
 typed op parent = member (codes "op") (string op) (member (codes "parent") (natural parent) (member (codes "types") no_types no_members))
 
+-- a function of this name
 abbrev pub function : List ℕ → ℕ → Members
 function name parent =
     member (codes "ins") no_types (member (codes "name") (string name) (member (codes "op") (string (codes "FuncDefn")) (member (codes "outs") no_types (member (codes "parent") (natural parent) no_members))))
@@ -40,9 +45,11 @@ node_members H parent = bare (codes "quantum.h") parent
 node_members X parent = bare (codes "quantum.x") parent
 node_members Free parent = bare (codes "quantum.free") parent
 
+-- the data of a node
 abbrev pub node_data : Node → Data
 node_data node = object (node_members node.op node.parent)
 
+-- a list of two
 abbrev pub pair : Data → Data → Data
 pair a b = array (item a (item b no_items))
 
@@ -51,6 +58,7 @@ abbrev pub link_data : Link → Data
 link_data (Ports from to) = pair (pair (natural from.node) (natural from.index)) (pair (natural to.node) (natural to.index))
 link_data (Order before after) = pair (pair (natural before) null) (pair (natural after) null)
 
+-- the data of a graph
 unfoldable pub graph_data : Graph → Data
 graph_data g =
     object (member (codes "edges") (array (array_of link_data g.links)) (member (codes "nodes") (array (array_of node_data g.nodes)) (member (codes "version") (string (codes "profile-1")) no_members)))

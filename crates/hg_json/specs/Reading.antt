@@ -1,5 +1,5 @@
 -- The graph that a text stands for, or why it has none. The data of a text is `serde_json`'s reading of
--- it; of equal keys the last stands there, and a number is whole where it is one of 64 bits.
+-- it, in which of equal keys the last stands, and a number is whole where it is read as one of 64 bits.
 use Rattle.std.specs.Prelude.{ℕ, suc, List, [], ◌∷◌, length, ⊤, Bool, Option, Some, None, Result, Ok, Err, nat_lt, codes, bytes_eq, ◌==◌, if◌then◌else◌}
 use Rattle.std.specs.Str.{is_utf8}
 use Rattle.serde_json.specs.Data.{Data, null, Items, no_items, item}
@@ -22,20 +22,25 @@ abbrev pub ◌>>=◌ : {A B : Type 0} → Option A → (A → Option B) → Opti
 None >>= f = None
 (Some x) >>= f = f x
 
+-- what was found, where the test holds
 abbrev pub when : {A : Type 0} → Bool → Option A → Option A
 when b found = if b then found else None
 
 -- ---- the kinds of keys
 
+-- a whole number from 0 to 2 ^ 64 - 1
 abbrev pub natural_of : Data → Option ℕ
 natural_of d = as_number d >>= as_u64
 
+-- the text at a key
 abbrev pub text_at : List ℕ → Data → Option (List ℕ)
 text_at key d = get key d >>= as_str
 
+-- the whole number at a key
 abbrev pub natural_at : List ℕ → Data → Option ℕ
 natural_at key d = get key d >>= natural_of
 
+-- the items of the list at a key
 abbrev pub items_at : List ℕ → Data → Option Items
 items_at key d = get key d >>= as_array
 
@@ -44,17 +49,21 @@ abbrev pub no_types : Items → Option ⊤
 no_types no_items = Some tt
 no_types (item d ds) = None
 
+-- the list of types at a key
 unfoldable pub no_types_at : List ℕ → Data → Option ⊤
 no_types_at key d = items_at key d >>= no_types
 
 -- ---- nodes: the keys of each op that has any, and then a row for each op
 
+-- a function
 unfoldable pub func_defn : Data → Option Op
 func_defn d = text_at (codes "name") d >>= λ name. no_types_at (codes "ins") d >>= λ _. no_types_at (codes "outs") d >>= λ _. Some (FuncDefn name)
 
+-- an `Input`
 unfoldable pub input : Data → Option Op
 input d = no_types_at (codes "types") d >>= λ _. Some Input
 
+-- an `Output`
 unfoldable pub output : Data → Option Op
 output d = no_types_at (codes "types") d >>= λ _. Some Output
 
@@ -85,6 +94,7 @@ two (item a no_items) = None
 two (item a (item b no_items)) = Some (a, b)
 two (item a (item b (item c ds))) = None
 
+-- the items of a list of two
 abbrev pub pair_in : Data → Option (Data × Data)
 pair_in d = as_array d >>= two
 
@@ -115,6 +125,7 @@ link_of total d = pair_in d >>= λ pair. end_of total pair.0 >>= λ from. end_of
 
 -- ---- the whole
 
+-- what was found, or the refusal
 abbrev pub or_refuse : {A : Type 0} → Refusal → Option A → Result A Refusal
 or_refuse refusal None = Err refusal
 or_refuse refusal (Some x) = Ok x
@@ -130,6 +141,7 @@ each f refusal k no_items = Ok []
 each f refusal k (item d ds) =
     after (or_refuse (refusal k) (f d)) (λ x. after (each f refusal (suc k) ds) (λ xs. Ok (x ∷ xs)))
 
+-- the number of entries
 abbrev pub count : Items → ℕ
 count no_items = 0
 count (item d ds) = suc (count ds)
@@ -138,6 +150,7 @@ count (item d ds) = suc (count ds)
 unfoldable pub linked : List Node → Items → Result Graph Refusal
 linked nodes edges = after (each (link_of (length nodes)) BadLink 0 edges) λ links. Ok (record { nodes = nodes; links = links })
 
+-- the graph of the entries of `nodes` and `edges`
 unfoldable pub entries_of : Items → Items → Result Graph Refusal
 entries_of nodes edges = after (each (node_of (count nodes)) BadNode 0 nodes) λ found. linked found edges
 
@@ -155,6 +168,7 @@ graph_in d =
     after (or_refuse Top (items_at (codes "edges") d)) λ edges.
     versioned version nodes edges
 
+-- the data of a text
 unfoldable pub value_of : List ℕ → Result Data Refusal
 value_of bytes = or_refuse NotJson (when (is_utf8 bytes) (read bytes))
 

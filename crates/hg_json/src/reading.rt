@@ -17,7 +17,7 @@ use hg_graph::{Graph, Link, Node, Nodes};
 use serde_json::Value;
 use std::alloc::{AllocError, Global};
 
-/// The most bytes that a text may have: 32 MiB.
+/// The most bytes that a text to be read may have: 32 MiB.
 pub const MAX_TEXT_BYTES: usize = 33_554_432;
 
 // The node of entry k, in a graph of `total` nodes.

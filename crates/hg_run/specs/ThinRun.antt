@@ -16,7 +16,7 @@ use Rattle.hg_graph.specs.Thin.{ThinGate, thin_graph}
 abbrev pub IsThinGraph : Graph → Type 0
 IsThinGraph g = (gates : List ThinGate) × (g ≡ thin_graph gates)
 
--- the run of `main`, node 1 of a thin graph, that is told: of 100000 turns, with no outcomes, and each node fires as soon as it is the first that is ready
+-- the run that is told: of `main`, which is node 1 of a thin graph, with 100000 turns and no outcomes; of the nodes that are ready, the first always fires
 abbrev pub main_run : Graph → Out State (List Value)
 main_run g = run_function g 1 [] (record { world = start 100000 []; picks = [] })
 

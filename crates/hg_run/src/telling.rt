@@ -7,7 +7,8 @@ ghost use Rattle.gp_base.specs.Outside.{Rose, Wrote, WrotePart};
 use gp_base::event_text::{LINE_ROOM, end_text, event_text};
 use gp_base::{End, Event, Failed, Sink};
 
-// Writes all bytes. After an error the sink has a part from their front.
+// Writes all bytes. After an error the sink has a part from their front. Unlike `gp_base::write_all` it
+// says that the count of faults never falls, which a run of several writes needs.
 fn write_bytes<S: Sink>(sink: &mut S, bytes: &[u8]) -> Result<(), Failed>
     ensures ok { OnOk result (Wrote (S.bytes sink.old) (S.bytes sink.new) bytes.now) }
     ensures err { OnErr result (WrotePart (S.bytes sink.old) (S.bytes sink.new) bytes.now) }

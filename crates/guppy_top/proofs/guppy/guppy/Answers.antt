@@ -10,8 +10,8 @@ use Rattle.guppy_top.proofs.guppy.guppy.Goals as goal
 pub returns-in-Compile-clause-read_fault : goal.returns-in-Compile-clause-read_fault
 returns-in-Compile-clause-read_fault g c e =
     elim (c.compile.ensures.read_fault e) [
-      inl rose ↦ inl rose
-    | inr missing ↦ inr (record { mode = c.in-Some.request.mode; file = c.in-Some.request.file.now; meaning = sym c.in-Some.ensures; missing = missing })
+      | inl rose ↦ inl rose
+      | inr missing ↦ inr (record { mode = c.in-Some.request.mode; file = c.in-Some.request.file.now; meaning = sym c.in-Some.ensures; missing = missing })
     ]
 
 pub returns-in-Compile-clause-missing : goal.returns-in-Compile-clause-missing
@@ -47,8 +47,8 @@ returns-in-Compile-clause-compiled g c text gates k t =
 pub returns-in-Run-clause-read_fault : goal.returns-in-Run-clause-read_fault
 returns-in-Run-clause-read_fault g c e =
     elim (c.run.ensures.read_fault e) [
-      inl rose ↦ inl rose
-    | inr missing ↦ inr (record { mode = c.in-Some.request.mode; file = c.in-Some.request.file.now; meaning = sym c.in-Some.ensures; missing = missing })
+      | inl rose ↦ inl rose
+      | inr missing ↦ inr (record { mode = c.in-Some.request.mode; file = c.in-Some.request.file.now; meaning = sym c.in-Some.ensures; missing = missing })
     ]
 
 pub returns-in-Run-clause-missing : goal.returns-in-Run-clause-missing

@@ -1,5 +1,7 @@
 //! The top call, over files and sinks in memory.
 
+mod run;
+
 use crate::guppy::guppy;
 use crate::status::Status;
 use gp_base::{MemoryFiles, MemorySink, Name, Names, Sequence};

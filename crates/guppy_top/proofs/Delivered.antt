@@ -1,11 +1,11 @@
 -- From what was sent to what is delivered.
-use Rattle.std.proofs.Common.{◌≡◌, ◌⊎◌, ℕ, List, [], ◌∷◌, ◌++◌, take, Option, Some, None, inl, inr, refl, sym, ap, subst, ◌∙◌}
-use Rattle.gp_base.specs.Outside.{Holdings, Wrote, WrotePart}
+use Rattle.std.proofs.Common.{◌≡◌, ◌⊎◌, ℕ, List, [], Option, inl, inr, sym, ap, subst, ◌∙◌}
+use Rattle.gp_base.specs.Outside.{Holdings}
 use Rattle.guppy_top.specs.declared.status.Status.{Status}
 use Rattle.guppy_top.specs.declared.status.Status.TheVariants as status
 use Rattle.guppy_top.specs.declared.refusal.Refusal.{Refusal}
 use Rattle.guppy_top.specs.Refusal.{refusal_text, status_of}
-use Rattle.guppy_top.specs.Call.{Answer, Seen, seen, Sends, line_of, refused, Answered, CutShort, Delivers}
+use Rattle.guppy_top.specs.Call.{Answer, seen, Sends, line_of, refused, Delivers}
 use Rattle.guppy_top.specs.WordsFile.{AnswersFile, read}
 use Rattle.guppy_top.specs.Input.{AreRead}
 use Rattle.gp_base.proofs.Written.{appended-nil}

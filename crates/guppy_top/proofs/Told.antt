@@ -1,14 +1,14 @@
 -- What a call answers over files that tell their contents.
-use Rattle.std.proofs.Common.{◌≡◌, ◌⊎◌, ℕ, ◌+◌, ◌<◌, ◌≤◌, List, [], length, take, Option, Some, None, inl, inr, refl, sym, ap, subst, ◌∙◌, arith}
+use Rattle.std.proofs.Common.{◌≡◌, ℕ, ◌+◌, ◌<◌, ◌≤◌, List, [], length, take, Some, None, inl, inr, refl, sym, ap, subst, ◌∙◌, arith}
 use Rattle.std.specs.Option.{option_map}
 use Rattle.std.proofs.lemmas.List.{take_all, length-take-le}
-use Rattle.gp_base.specs.Outside.{Holdings, contents_of, IsMissing, Rose, Wrote}
+use Rattle.gp_base.specs.Outside.{Holdings, contents_of, IsMissing, Wrote}
 use Rattle.hg_graph.specs.Thin.{ThinGate, thin_graph}
 use Rattle.hg_graph.proofs.ThinLinked.{thin_graphs_are_linked}
 use Rattle.hg_graph.proofs.ThinRuns.{thin_graphs_run}
 use Rattle.guppy_top.specs.declared.status.Status.TheVariants as status
 use Rattle.guppy_top.specs.declared.refusal.Refusal.TheVariants.{ReadFault, TooLong}
-use Rattle.guppy_top.specs.Call.{Answer, Seen, refused, Answered, CutShort, Delivers, Settles}
+use Rattle.guppy_top.specs.Call.{Answer, Seen, refused, Delivers, Settles}
 use Rattle.guppy_top.specs.Compile.{source_limit, IsDue, too_long, IsGraphOf}
 use Rattle.guppy_top.specs.RunDue as run
 use Rattle.guppy_top.specs.RunDue.{graph_text_limit, IsDueRun}
@@ -16,7 +16,6 @@ use Rattle.guppy_top.specs.WordsFile.{Means, AnswersFile, failed, no_memory, rea
 use Rattle.guppy_top.specs.Input.{AreRead}
 use Rattle.guppy_top.specs.Words.{Meaning, meaning_of}
 use Rattle.guppy_top.specs.declared.words.Mode.{Mode}
-use Rattle.gp_base.proofs.Written.{appended-nil}
 
 -- the first bytes of a text that are read
 abbrev pub front : ℕ → List ℕ → List ℕ

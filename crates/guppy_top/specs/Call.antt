@@ -1,5 +1,5 @@
 -- What is seen of a call of the program.
-use Rattle.std.specs.Prelude.{◌≡◌, ◌⊎◌, ℕ, List, [], ◌∷◌, ◌++◌, take, Option}
+use Rattle.std.specs.Prelude.{◌≡◌, ◌⊎◌, ℕ, List, [], ◌∷◌, ◌++◌, Option}
 use Rattle.gp_base.specs.Outside.{Rose, Wrote, WrotePart}
 use Rattle.guppy_top.specs.declared.status.Status.{Status}
 use Rattle.guppy_top.specs.declared.status.Status.TheVariants as status

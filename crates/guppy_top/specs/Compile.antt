@@ -1,6 +1,5 @@
 -- What `compile` answers.
-use Rattle.std.specs.Prelude.{◌≡◌, ◌≢◌, ◌⊎◌, ℕ, ◌+◌, ◌<◌, ◌≤◌, Bool, true, false, List, [], ◌∷◌, ◌++◌, length, Option, Some, None}
-use Rattle.gp_base.specs.declared.name.LineNo.{LineNo}
+use Rattle.std.specs.Prelude.{◌≡◌, ◌≢◌, ℕ, ◌+◌, ◌<◌, ◌≤◌, Bool, true, false, List, ◌∷◌, ◌++◌, length}
 use Rattle.gp_parse.specs.declared.thin_text.ThinLine.{ThinLine}
 use Rattle.gp_parse.specs.declared.thin_text.ThinLine.TheVariants.{H, X, Discard}
 use Rattle.gp_parse.specs.Thin.{thin_text}

@@ -1,6 +1,5 @@
 -- What the words of a command line mean.
 use Rattle.std.specs.Prelude.{ℕ, Bool, false, not, ◌==◌, bytes_eq, if◌then◌else◌, List, [], ◌∷◌, codes, Option, Some, None}
-use Rattle.std.specs.Option.{option_map}
 use Rattle.guppy_top.specs.declared.words.Mode.{Mode}
 use Rattle.guppy_top.specs.declared.words.Mode.TheVariants.{Compile, Run}
 use Rattle.guppy_top.specs.declared.words.Request.{Request}

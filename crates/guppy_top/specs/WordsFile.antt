@@ -1,12 +1,12 @@
 -- Calls that read the file that their words name.
-use Rattle.std.specs.Prelude.{◌≡◌, ◌⊎◌, ℕ, List, Option, Some, None}
+use Rattle.std.specs.Prelude.{◌≡◌, ◌⊎◌, ℕ, List, Some}
 use Rattle.gp_base.specs.Outside.{Holdings, contents_of, IsMissing, Rose}
 use Rattle.guppy_top.specs.declared.status.Status.TheVariants as status
 use Rattle.guppy_top.specs.declared.refusal.Refusal.TheVariants.{ReadFault}
 use Rattle.guppy_top.specs.declared.words.Mode.{Mode}
 use Rattle.guppy_top.specs.Call.{Answer, refused, Seen, Delivers}
 use Rattle.guppy_top.specs.Input.{AreRead}
-use Rattle.guppy_top.specs.Words.{Meaning, meaning_of}
+use Rattle.guppy_top.specs.Words.{meaning_of}
 
 -- the words mean this mode of this file
 abbrev pub Means : List (List ℕ) → Mode → List ℕ → Type 0

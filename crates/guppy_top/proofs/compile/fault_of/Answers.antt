@@ -1,4 +1,4 @@
-use Rattle.std.proofs.Common.{◌≡◌, ◌+◌, length, position, Some, arith, ap, sym, ◌∙◌, refl}
+use Rattle.std.proofs.Common.{◌≡◌, length, position, Some, arith, ap, sym, ◌∙◌}
 use Rattle.guppy_top.specs.Compile.{is_discard, given_up_at}
 use Rattle.guppy_top.proofs.Discards.{position-gate_lines, position-discard, last_is_discard, length-spent_lines, length-complete_lines}
 use Rattle.guppy_top.proofs.compile.fault_of.Goals as goal

@@ -1,4 +1,4 @@
-use Rattle.std.proofs.Common.{◌≡◌, inl, inr, sym, ◌∙◌}
+use Rattle.std.proofs.Common.{inl, inr, sym}
 use Rattle.hg_graph.specs.Thin.{thin_graph}
 use Rattle.guppy_top.specs.declared.words.Mode.TheVariants.{Compile, Run}
 use Rattle.guppy_top.specs.Compile.{source_limit, IsDue, not_built, given_up, held_at_return, compiled}

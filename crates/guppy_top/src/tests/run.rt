@@ -42,7 +42,8 @@ fn refuses(rt: &impl Abort, alloc: Global, text: &[u8], line: &[u8]) -> Result<(
 
 #[test]
 fn refuses_what_is_no_object(rt: HostRuntime) -> Result<(), Fail> {
-    let deep = vec![in rt.alloc(); b'['; 200]?;
+    let mut deep = vec![in rt.alloc(); b'['; 200]?;
+    deep.extend_from_slice(&vec![in rt.alloc(); b']'; 200]?)?;
     let cases: [(&[u8], &[u8]); 8] = [
         (b"", b"graph: NotJson\n"),
         (&GRAPH[..20], b"graph: NotJson\n"),
@@ -122,7 +123,8 @@ fn refuses_a_text_past_the_limit(rt: HostRuntime) -> Result<(), Fail> {
 
 #[test]
 fn stops_at_a_failed_write(rt: HostRuntime) -> Result<(), Fail> {
-    for failing in 0..5 {
+    // Four events, the end and its line feed.
+    for failing in 0..6 {
         let mut outside = Outside::holding(rt.alloc(), GRAPH)?;
         outside.out.fail_at(failing)?;
         assert_eq!(rt; outside.call(rt.alloc(), RUN)?, Status::WriteFault);

@@ -2,8 +2,9 @@
 # Times `compile` on thin texts and `run` on thin graphs, with the proved program, beside python3's reading of
 # the same graph in the same run. Wants the program built (./guppy does that), bash and python3.
 #
-# For each size it prints the wall time in seconds, the peak memory in MiB, and for graphs the ratio of the
-# program's time to that of: python3 -c 'import json,sys; json.load(sys.stdin)'
+# For each size it prints the wall time in seconds, the peak memory in MiB, and the ratio of the program's time
+# to that of python3 -c 'import json,sys; json.load(sys.stdin)' on the same graph: for `compile` the graph that
+# it writes, for `run` the one that it reads.
 set -eu
 home=$(cd "$(dirname "${BASH_SOURCE[0]}")/.." && pwd)
 program=$home/crates/guppy_top/out/guppy_top
@@ -18,13 +19,12 @@ program, work, example = sys.argv[1:]
 head = open(example).read().split("    h(q)\n")[0]
 
 
-def timed(words, stdin=None):
+def timed(words, stdin=os.devnull, stdout=os.devnull):
     """The best of three wall times in seconds, and the peak memory in MiB."""
     best, peak = None, 0
     for _ in range(3):
-        source = open(stdin) if stdin else subprocess.DEVNULL
         start = time.perf_counter()
-        child = subprocess.Popen(words, stdin=source, stdout=subprocess.DEVNULL)
+        child = subprocess.Popen(words, stdin=open(stdin), stdout=open(stdout, "w"))
         _, status, usage = os.wait4(child.pid, 0)
         took = time.perf_counter() - start
         if status != 0:
@@ -32,6 +32,11 @@ def timed(words, stdin=None):
         best = took if best is None else min(best, took)
         peak = max(peak, usage.ru_maxrss / 1024)
     return best, peak
+
+
+def reading(path):
+    """The best time in which Python reads the graph."""
+    return timed(["python3", "-c", "import json,sys; json.load(sys.stdin)"], stdin=path)[0]
 
 
 def thin_graph(gates):
@@ -47,19 +52,20 @@ def thin_graph(gates):
     return json.dumps(graph, separators=(",", ":"))
 
 
-print("compile: lines  bytes    seconds  MiB")
+graph = os.path.join(work, "thin.json")
+print("compile: lines      bytes  seconds    MiB  python3  ratio")
 for lines in (1000, 2000, 4000, 5000):
     body = "".join(f"    {'hx'[k % 2]}(q)\n" for k in range(lines - 1)) + "    discard(q)\n"
     path = os.path.join(work, "thin.py")
     open(path, "w").write(head + body)
-    took, peak = timed([program, "compile", path])
-    print(f"         {lines:5}  {len(head + body):7}  {took:7.3f}  {peak:5.0f}")
+    took, peak = timed([program, "compile", path], stdout=graph)
+    python = reading(graph)
+    print(f"        {lines:6}  {len(head + body):9}  {took:7.3f}  {peak:5.0f}  {python:7.3f}  {took / python:5.2f}")
 
-print("run:     nodes  bytes      seconds  MiB    python3  ratio")
+print("run:     nodes      bytes  seconds    MiB  python3  ratio")
 for count in (10_000, 100_000, 200_000):
-    path = os.path.join(work, "thin.json")
-    open(path, "w").write(thin_graph(count - 6))
-    took, peak = timed([program, "run", path])
-    reading, _ = timed(["python3", "-c", "import json,sys; json.load(sys.stdin)"], path)
-    print(f"        {count:6}  {os.path.getsize(path):9}  {took:7.3f}  {peak:5.0f}  {reading:7.3f}  {took / reading:5.2f}")
+    open(graph, "w").write(thin_graph(count - 6))
+    took, peak = timed([program, "run", graph])
+    python = reading(graph)
+    print(f"        {count:6}  {os.path.getsize(graph):9}  {took:7.3f}  {peak:5.0f}  {python:7.3f}  {took / python:5.2f}")
 PY

@@ -1,5 +1,6 @@
--- The types of values at the ports of a graph.
-use Rattle.std.specs.Prelude.{ℕ, zero, suc, Bool, true, false, ◌||◌, List, [], ◌∷◌, Option, Some, None}
+-- The types of values at the ports of a graph. An op has its types as lists; inside a type the lists are `Row` and
+-- `Rows`, copies of lists that may lead back to the type.
+use Rattle.std.specs.Prelude.{Bool, true, false, ◌||◌, List, [], ◌∷◌}
 
 mutual
   -- A whole number, a qubit, or a Sum: one of several rows, each with values of its types.
@@ -36,31 +37,16 @@ abbrev pub rows_of : List (List GraphType) → Rows
 rows_of [] = no_rows
 rows_of (ts ∷ rest) = next_row (row_of ts) (rows_of rest)
 
--- how many rows there are, and the one at place k, counted from 0
-abbrev pub row_count : Rows → ℕ
-row_count no_rows = 0
-row_count (next_row r rs) = suc (row_count rs)
+-- the Sum of these rows, and that of one row, as of a tuple
+abbrev pub sum_type : List (List GraphType) → GraphType
+sum_type rows = Sum (rows_of rows)
 
-abbrev pub row_at : Rows → ℕ → Option Row
-row_at no_rows k = None
-row_at (next_row r rs) zero = Some r
-row_at (next_row r rs) (suc k) = row_at rs k
-
--- the types of a row that may be missing
-abbrev pub types_or_none : Option Row → List GraphType
-types_or_none None = []
-types_or_none (Some r) = types r
-
--- the Sum of one row, as of a tuple, and of two
-abbrev pub tuple_type : Row → GraphType
-tuple_type r = Sum (next_row r no_rows)
-
-abbrev pub either_type : Row → Row → GraphType
-either_type r s = Sum (next_row r (next_row s no_rows))
+abbrev pub tuple_type : List GraphType → GraphType
+tuple_type ts = sum_type (ts ∷ [])
 
 -- a truth value: row 0 for false, row 1 for true, both without values
 abbrev pub bool_type : GraphType
-bool_type = either_type no_types no_types
+bool_type = sum_type ([] ∷ [] ∷ [])
 
 abbrev mutual
   -- a value of the type holds a qubit, or another value of it does: it has to be used exactly once

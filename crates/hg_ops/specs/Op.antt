@@ -1,8 +1,12 @@
 -- Ops as contracts see them, sorted by shape, with their ports.
-use Rattle.std.specs.Prelude.{ℕ, ℤ, Bool, true, false, List, [], ◌∷◌, ◌++◌, map}
+use Rattle.std.specs.Prelude.{ℕ, ℤ, Bool, true, false, List, [], ◌∷◌, ◌++◌, map, slice_index_or}
 use Rattle.gp_base.specs.declared.event.GateName.{GateName}
 use Rattle.gp_base.specs.declared.event.GateName.TheVariants as name
-use Rattle.hg_ops.specs.GraphType.{GraphType, Int, Qubit, Sum, Row, Rows, no_rows, next_row, types, types_or_none, row_at, tuple_type, either_type, bool_type}
+use Rattle.hg_ops.specs.GraphType.{GraphType, Int, Qubit, sum_type, tuple_type, bool_type}
+
+-- the types at some ports, in order
+abbrev pub Types : Type 0
+Types = List GraphType
 
 -- ---- The ops of extensions. Gates of one shape differ by name alone, and no name has a wrong shape.
 
@@ -90,25 +94,25 @@ pub data Extension : Type 0 where
   Compare : Comparison → Extension
   Not : Extension
   CompareBools : BoolComparison → Extension
-  Unpack : (types : Row) → Extension
+  Unpack : (types : Types) → Extension
 
 -- ---- The ops.
 
 pub data Op : Type 0 where
   Module : Op
-  FuncDefn : (name : List ℕ) (ins outs : Row) → Op
+  FuncDefn : (name : List ℕ) (ins outs : Types) → Op
   Const : (value : ℤ) → Op
-  Input : (types : Row) → Op
-  Output : (types : Row) → Op
-  Dfg : (ins outs : Row) → Op
-  Cfg : (ins outs : Row) → Op
-  DataflowBlock : (ins : Row) (rows : Rows) (others : Row) → Op
-  ExitBlock : (types : Row) → Op
-  Conditional : (rows : Rows) (ins outs : Row) → Op
-  Case : (ins outs : Row) → Op
-  TailLoop : (again leave rest : Row) → Op
-  Tag : (rows : Rows) (tag : ℕ) → Op
-  Call : (ins outs : Row) → Op
+  Input : (types : Types) → Op
+  Output : (types : Types) → Op
+  Dfg : (ins outs : Types) → Op
+  Cfg : (ins outs : Types) → Op
+  DataflowBlock : (ins : Types) (rows : List Types) (others : Types) → Op
+  ExitBlock : (types : Types) → Op
+  Conditional : (rows : List Types) (ins outs : Types) → Op
+  Case : (ins outs : Types) → Op
+  TailLoop : (again leave rest : Types) → Op
+  Tag : (rows : List Types) (tag : ℕ) → Op
+  Call : (ins outs : Types) → Op
   LoadConstant : Op
   Ext : Extension → Op
 
@@ -152,27 +156,27 @@ extension_outs Negate = Int ∷ []
 extension_outs (Compare which) = bool_type ∷ []
 extension_outs Not = bool_type ∷ []
 extension_outs (CompareBools which) = bool_type ∷ []
-extension_outs (Unpack row) = types row
+extension_outs (Unpack types) = types
 
 abbrev pub ins_of : Op → List GraphType
-ins_of (Output row) = types row
-ins_of (Dfg ins outs) = types ins
-ins_of (Cfg ins outs) = types ins
-ins_of (Conditional rows ins outs) = Sum rows ∷ types ins
-ins_of (TailLoop again leave rest) = types again ++ types rest
-ins_of (Tag rows tag) = types_or_none (row_at rows tag)
-ins_of (Call ins outs) = types ins
+ins_of (Output types) = types
+ins_of (Dfg ins outs) = ins
+ins_of (Cfg ins outs) = ins
+ins_of (Conditional rows ins outs) = sum_type rows ∷ ins
+ins_of (TailLoop again leave rest) = again ++ rest
+ins_of (Tag rows tag) = slice_index_or rows tag []
+ins_of (Call ins outs) = ins
 ins_of (Ext e) = extension_ins e
 ins_of _ = []
 
 abbrev pub outs_of : Op → List GraphType
-outs_of (Input row) = types row
-outs_of (Dfg ins outs) = types outs
-outs_of (Cfg ins outs) = types outs
-outs_of (Conditional rows ins outs) = types outs
-outs_of (TailLoop again leave rest) = types leave ++ types rest
-outs_of (Tag rows tag) = Sum rows ∷ []
-outs_of (Call ins outs) = types outs
+outs_of (Input types) = types
+outs_of (Dfg ins outs) = outs
+outs_of (Cfg ins outs) = outs
+outs_of (Conditional rows ins outs) = outs
+outs_of (TailLoop again leave rest) = leave ++ rest
+outs_of (Tag rows tag) = sum_type rows ∷ []
+outs_of (Call ins outs) = outs
 outs_of LoadConstant = Int ∷ []
 outs_of (Ext e) = extension_outs e
 outs_of _ = []
@@ -189,19 +193,15 @@ pub data PortKind : Type 0 where
 -- input. A block has a control output for each row, and like an exit a control input.
 abbrev pub other_inputs : Op → List PortKind
 other_inputs (DataflowBlock ins rows others) = ControlPort ∷ []
-other_inputs (ExitBlock row) = ControlPort ∷ []
+other_inputs (ExitBlock types) = ControlPort ∷ []
 other_inputs (Call ins outs) = FunctionPort ∷ []
 other_inputs LoadConstant = ConstantPort ∷ []
 other_inputs _ = []
 
-abbrev pub control_outputs : Rows → List PortKind
-control_outputs no_rows = []
-control_outputs (next_row r rs) = ControlPort ∷ control_outputs rs
-
 abbrev pub other_outputs : Op → List PortKind
 other_outputs (FuncDefn name ins outs) = FunctionPort ∷ []
 other_outputs (Const value) = ConstantPort ∷ []
-other_outputs (DataflowBlock ins rows others) = control_outputs rows
+other_outputs (DataflowBlock ins rows others) = map (λ row. ControlPort) rows
 other_outputs _ = []
 
 -- the kind of each port, in the order of the ports; inputs and outputs are numbered apart, each from 0
@@ -224,25 +224,25 @@ is_dataflow_container _ = false
 
 -- the types that the `Input` of a dataflow container gives, and those that its `Output` takes
 abbrev pub inner_ins : Op → List GraphType
-inner_ins (FuncDefn name ins outs) = types ins
-inner_ins (Dfg ins outs) = types ins
-inner_ins (Case ins outs) = types ins
-inner_ins (DataflowBlock ins rows others) = types ins
-inner_ins (TailLoop again leave rest) = types again ++ types rest
+inner_ins (FuncDefn name ins outs) = ins
+inner_ins (Dfg ins outs) = ins
+inner_ins (Case ins outs) = ins
+inner_ins (DataflowBlock ins rows others) = ins
+inner_ins (TailLoop again leave rest) = again ++ rest
 inner_ins _ = []
 
 abbrev pub inner_outs : Op → List GraphType
-inner_outs (FuncDefn name ins outs) = types outs
-inner_outs (Dfg ins outs) = types outs
-inner_outs (Case ins outs) = types outs
-inner_outs (DataflowBlock ins rows others) = Sum rows ∷ types others
-inner_outs (TailLoop again leave rest) = either_type again leave ∷ types rest
+inner_outs (FuncDefn name ins outs) = outs
+inner_outs (Dfg ins outs) = outs
+inner_outs (Case ins outs) = outs
+inner_outs (DataflowBlock ins rows others) = sum_type rows ∷ others
+inner_outs (TailLoop again leave rest) = sum_type (again ∷ leave ∷ []) ∷ rest
 inner_outs _ = []
 
 -- what stands in a region and may have order links
 abbrev pub is_operation : Op → Bool
-is_operation (Input row) = true
-is_operation (Output row) = true
+is_operation (Input types) = true
+is_operation (Output types) = true
 is_operation (Dfg ins outs) = true
 is_operation (Cfg ins outs) = true
 is_operation (Conditional rows ins outs) = true
@@ -256,8 +256,8 @@ is_operation _ = false
 -- what fires in a region: every child but `Input`, `Output` and `Const`
 abbrev pub fires : Op → Bool
 fires (Const value) = false
-fires (Input row) = false
-fires (Output row) = false
+fires (Input types) = false
+fires (Output types) = false
 fires _ = true
 
 -- ---- Effects: what may not change places in a run.

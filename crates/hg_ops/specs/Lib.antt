@@ -1,2 +1,6 @@
 pub mod GraphType
 pub mod Op
+pub mod TypeCode
+pub mod TypeFalls
+pub mod TypeSize
+pub mod TypeView

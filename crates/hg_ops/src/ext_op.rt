@@ -1,0 +1,70 @@
+//! The ops of extensions and their names.
+
+ghost use Rattle.std.specs.Prelude.{◌≡◌, ◌↔◌};
+ghost use Rattle.hg_ops.specs.Names.{ext_op_name};
+ghost use Rattle.hg_ops.specs.declared.ext_op.ExtOp as declared;
+
+use crate::tables::{ext_ops, gates};
+
+/// An op of an extension, without what a node keeps for it.
+#[derive(Clone, Copy, Debug, PartialEq, Eq)]
+pub enum ExtOp {
+    Alloc,
+    Free,
+    MeasureFree,
+    Measure,
+    Reset,
+    H,
+    X,
+    Y,
+    Z,
+    S,
+    Sdg,
+    T,
+    Tdg,
+    Cx,
+    Cy,
+    Cz,
+    Toffoli,
+    Rx,
+    Ry,
+    Rz,
+    ResultInt,
+    ResultBool,
+    Add,
+    Sub,
+    Mul,
+    FloorDiv,
+    Mod,
+    Neg,
+    IntEq,
+    IntNe,
+    Lt,
+    Le,
+    Gt,
+    Ge,
+    Not,
+    BoolEq,
+    BoolNe,
+    Unpack,
+}
+
+macro_rules! name_of {
+    (
+        [$op:ident]
+        [$($ext:ident $name:literal $effect:literal [$($in:ident)*] [$($out:ident)*];)*]
+        [$($gate:ident $text:literal $qubits:literal $angles:literal,)*]
+    ) => {
+        match $op {
+            $(ExtOp::$ext => $name,)*
+            $(ExtOp::$gate => concat!("quantum.", $text),)*
+        }
+    };
+}
+
+/// The name of an op. Takes no memory.
+pub fn name_of(op: ExtOp) -> &'static str
+    ensures { result.now ≡ ext_op_name op }
+{
+    ext_ops!(name_of, op)
+}

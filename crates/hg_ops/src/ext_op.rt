@@ -68,3 +68,20 @@ pub fn name_of(op: ExtOp) -> &'static str
 {
     ext_ops!(name_of, op)
 }
+
+macro_rules! all {
+    (
+        []
+        [$($ext:ident $name:literal $effect:literal [$($in:ident)*] [$($out:ident)*];)*]
+        [$($gate:ident $text:literal $qubits:literal $angles:literal,)*]
+    ) => {
+        [$(ExtOp::$ext,)* $(ExtOp::$gate,)*]
+    };
+}
+
+/// The op of this name; `None` exactly where no op has it. Takes no memory.
+pub fn op_of_name(name: &str) -> Option<ExtOp>
+    ensures { (op : declared.ExtOp) → (result ≡ Some op) ↔ (ext_op_name op ≡ name.now) }
+{
+    ext_ops!(all,).iter().copied().find(|op| name_of(*op) == name)
+}

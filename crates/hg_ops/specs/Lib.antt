@@ -1,3 +1,4 @@
+pub mod Gates
 pub mod GraphType
 pub mod Names
 pub mod Op

@@ -83,5 +83,8 @@ macro_rules! all {
 pub fn op_of_name(name: &str) -> Option<ExtOp>
     ensures { (op : declared.ExtOp) → (result ≡ Some op) ↔ (ext_op_name op ≡ name.now) }
 {
-    ext_ops!(all,).iter().copied().find(|op| name_of(*op) == name)
+    ext_ops!(all,)
+        .iter()
+        .copied()
+        .find(|op| name_of(*op) == name)
 }

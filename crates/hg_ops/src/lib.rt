@@ -2,13 +2,17 @@
 //! values, the names of the ops and the gates, and the ports of each op.
 #![tactic(auto)]
 
+pub mod effect;
 pub mod ext_op;
+pub mod gate;
 pub mod graph_type;
 pub mod linear;
 pub mod op_kind;
 mod tables;
 
-pub use ext_op::{ExtOp, name_of};
+pub use effect::is_effect;
+pub use ext_op::{ExtOp, name_of, op_of_name};
+pub use gate::{Gate, gate_op};
 pub use graph_type::{GraphType, Row, Rows};
 pub use linear::is_linear;
 pub use op_kind::OpKind;

@@ -3,6 +3,7 @@ pub mod GraphType
 pub mod Names
 pub mod Op
 pub mod OpView
+pub mod PlainType
 pub mod TypeCode
 pub mod TypeFalls
 pub mod TypeSize

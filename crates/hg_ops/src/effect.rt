@@ -11,11 +11,13 @@ macro_rules! effects {
     (
         [$op:ident]
         [$($ext:ident $name:literal $effect:literal [$($in:ident)*] [$($out:ident)*];)*]
+        [$($own:ident $own_name:literal $own_effect:literal;)*]
         [$($gate:ident $text:literal $qubits:literal $angles:literal,)*]
     ) => {
         match $op {
             OpKind::Cfg { .. } | OpKind::TailLoop { .. } | OpKind::Call { .. } => true,
             $(OpKind::$ext { .. } => $effect,)*
+            $(OpKind::$own { .. } => $own_effect,)*
             $(OpKind::$gate => true,)*
             _ => false,
         }

@@ -53,10 +53,12 @@ macro_rules! name_of {
     (
         [$op:ident]
         [$($ext:ident $name:literal $effect:literal [$($in:ident)*] [$($out:ident)*];)*]
+        [$($own:ident $own_name:literal $own_effect:literal;)*]
         [$($gate:ident $text:literal $qubits:literal $angles:literal,)*]
     ) => {
         match $op {
             $(ExtOp::$ext => $name,)*
+            $(ExtOp::$own => $own_name,)*
             $(ExtOp::$gate => concat!("quantum.", $text),)*
         }
     };
@@ -73,9 +75,10 @@ macro_rules! all {
     (
         []
         [$($ext:ident $name:literal $effect:literal [$($in:ident)*] [$($out:ident)*];)*]
+        [$($own:ident $own_name:literal $own_effect:literal;)*]
         [$($gate:ident $text:literal $qubits:literal $angles:literal,)*]
     ) => {
-        [$(ExtOp::$ext,)* $(ExtOp::$gate,)*]
+        [$(ExtOp::$ext,)* $(ExtOp::$own,)* $(ExtOp::$gate,)*]
     };
 }
 

@@ -5,18 +5,20 @@ ghost use Rattle.hg_ops.specs.Gates as spec;
 ghost use Rattle.hg_ops.specs.Gates.{qubit_count, angle_count};
 ghost use Rattle.hg_ops.specs.OpView.{op_view};
 
+use crate::graph_type::{GraphType, Row};
 use crate::op_kind::OpKind;
 use crate::tables::gates;
 use gp_base::GateName;
+use std::alloc::{AllocError, Global};
 use std::marker::Model;
 
 /// A gate on `QUBITS` qubits with `ANGLES` angles. A contract sees it as its name.
 #[derive(Debug, Drop)]
-pub struct Gate<const QUBITS: u64, const ANGLES: u64> {
+pub struct Gate<const QUBITS: usize, const ANGLES: usize> {
     name: GateName,
 }
 
-impl<const QUBITS: u64, const ANGLES: u64> Model for Gate<QUBITS, ANGLES> {
+impl<const QUBITS: usize, const ANGLES: usize> Model for Gate<QUBITS, ANGLES> {
     ghost use Rattle.gp_base.specs.declared.event.GateName.{GateName};
 
     ghost Value = { GateName };
@@ -46,7 +48,7 @@ macro_rules! op_of {
 }
 
 // The numbers of a gate's qubits and angles.
-fn counts_of(gate: GateName) -> (u64, u64)
+fn counts_of(gate: GateName) -> (usize, usize)
     ensures { result ≡ (qubit_count gate, angle_count gate) }
 {
     gates!(counts, [gate])
@@ -59,9 +61,9 @@ pub fn gate_op(gate: GateName) -> OpKind
     gates!(op_of, [gate])
 }
 
-impl<const QUBITS: u64, const ANGLES: u64> Gate<QUBITS, ANGLES> {
-    ghost use Rattle.std.specs.Prelude.{◌≡◌, ◌↔◌, IsSome, IfSome};
-    ghost use Rattle.hg_ops.specs.Gates.{qubit_count, angle_count};
+impl<const QUBITS: usize, const ANGLES: usize> Gate<QUBITS, ANGLES> {
+    ghost use Rattle.std.specs.Prelude.{◌≡◌, ◌↔◌, IsSome, IfSome, IfOk};
+    ghost use Rattle.hg_ops.specs.Gates.{qubit_count, angle_count, gate_ins, gate_outs};
 
     /// The gate of this name; `None` exactly where the name's gate has other numbers of qubits and angles. Takes no
     /// memory.
@@ -75,6 +77,24 @@ impl<const QUBITS: u64, const ANGLES: u64> Gate<QUBITS, ANGLES> {
         } else {
             None
         }
+    }
+
+    /// The rows of inputs and outputs of a gate with these numbers: its qubits and then its angles, and its qubits.
+    #[tactic(auto, using(crate::proofs::Copies::replicate_next))]
+    pub fn signature(alloc: Global) -> Result<(Row, Row), AllocError>
+        ensures ins { IfOk result (λ rows. rows.0 ≡ gate_ins QUBITS ANGLES) }
+        ensures outs { IfOk result (λ rows. rows.1 ≡ gate_outs QUBITS) }
+    {
+        let mut ins = Row::new(alloc);
+        let mut outs = Row::new(alloc);
+        for _ in 0..QUBITS {
+            ins.push(GraphType::Qubit)?;
+            outs.push(GraphType::Qubit)?;
+        }
+        for _ in 0..ANGLES {
+            ins.push(GraphType::Int)?;
+        }
+        Ok((ins, outs))
     }
 
     /// The gate's name. Takes no memory.

@@ -116,6 +116,16 @@ impl Row {
         Ok(())
     }
 
+    /// Appends the types of another row. After an error some of them may be there.
+    pub fn append_copy(&mut self, alloc: Global, other: &Row) -> Result<(), AllocError>
+        ensures { OnOk result (self.new ≡ self.old ++ other.now) }
+    {
+        for k in 0..other.types.len() {
+            self.types.push(other.types[k].copy(alloc)?)?;
+        }
+        Ok(())
+    }
+
     /// A row of the same types.
     #[cycle(copying)]
     pub fn copy(&self, alloc: Global) -> Result<Row, AllocError>

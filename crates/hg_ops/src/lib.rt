@@ -8,6 +8,7 @@ pub mod gate;
 pub mod graph_type;
 pub mod linear;
 pub mod op_kind;
+pub mod signatures;
 mod tables;
 
 pub use effect::is_effect;
@@ -16,3 +17,4 @@ pub use gate::{Gate, gate_op};
 pub use graph_type::{GraphType, Row, Rows};
 pub use linear::is_linear;
 pub use op_kind::OpKind;
+pub use signatures::signature;

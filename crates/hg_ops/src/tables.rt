@@ -1,6 +1,6 @@
-//! The ops of extensions and the gates, each in one list. A macro that is handed to `ext_ops` gets the ops, with their
-//! name, whether they are an effect, and their rows of inputs and outputs, and then the gates, with their name and their
-//! numbers of qubits and angles.
+//! The ops of extensions and the gates, each in one list. A macro that is handed to `ext_ops` gets what was handed on
+//! with it, and then the ops, with their name, whether they are an effect, and their rows of inputs and outputs; those
+//! whose rows a node keeps, without them; and the gates, with their name and their numbers of qubits and angles.
 
 macro_rules! ext_ops {
     ($with:ident, $($handed:tt)*) => {
@@ -27,7 +27,8 @@ macro_rules! ext_ops {
             Not "bool.not" false [Bool] [Bool];
             BoolEq "bool.eq" false [Bool Bool] [Bool];
             BoolNe "bool.ne" false [Bool Bool] [Bool];
-            Unpack "prelude.unpack" false [] [];
+        ] [
+            Unpack "prelude.unpack" false;
         ] }
     };
 }

@@ -1,0 +1,2 @@
+pub mod GraphType
+pub mod Op

@@ -96,7 +96,7 @@ thin_runs : graph_run thin 1 [] (start 5 []) [] ≡ Returned [] (record { flags 
 unfolding graph_run run_function runs enter_op region firings fire_op perform perform_extension ready candidate inputs children firing_children op_at parent_at
 thin_runs = refl
 
--- ---- a function of one block that calls another: it adds 1 to the numbers 3, 2 and 1 in turn, by jumps back
+-- ---- a block that counts a number down, by a call of a function, until it is negative
 
 abbrev number : Types
 number = GraphType.Int ∷ []

@@ -1,0 +1,8 @@
+pub mod Lists
+pub mod Runs
+pub mod Wires
+pub mod Values
+pub mod Looks
+pub mod Children
+pub mod Known
+mod Samples

@@ -5,4 +5,7 @@ pub mod Values
 pub mod Looks
 pub mod Children
 pub mod Known
+pub mod Flow
+pub mod Regions
+pub mod Typed
 mod Samples

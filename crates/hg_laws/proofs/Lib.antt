@@ -7,5 +7,8 @@ pub mod Children
 pub mod Known
 pub mod Flow
 pub mod Regions
+pub mod Matches
+pub mod Steps
 pub mod Typed
+pub mod Cleanly
 mod Samples

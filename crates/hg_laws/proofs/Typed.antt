@@ -11,11 +11,12 @@ use Rattle.hg_ops.specs.GraphType.{GraphType, sum_type, tuple_type, bool_type}
 use Rattle.hg_ops.specs.Op as op
 use Rattle.hg_ops.specs.Op.{one_qubit_name, two_qubit_name, rotation_name, Op, Types, Extension, Module, FuncDefn, Const, Input, Output, Dfg, Cfg, DataflowBlock, ExitBlock, Conditional, Case, TailLoop, Tag, Call, LoadConstant, Ext, Division, extension_ins, extension_outs, ins_of, outs_of, is_dataflow_container, inner_ins, inner_outs}
 use Rattle.hg_laws.specs.Graph.{Graph, Port, In, op_at, parent_at, children, firing_children, feeder, taker, static_input}
-use Rattle.hg_laws.specs.Run.{Fired, Open, outs_at, inputs, Ready, ready, with_qubit, with_two_qubits, with_three_qubits, with_angle, with_int, with_two_ints, with_bool, with_two_bools, with_tuple, if_truth, nothing, divide, divided, perform_extension, perform, State, Note, on_world, choose, pick_from, or_stuck, at_moment, Enter, at_node, at_port, with_variant, constant, after_turn, fire_op, fire, firings, region, after_round, jump, enter_op, level, resume}
+use Rattle.hg_laws.specs.Run.{Fired, Open, outs_at, inputs, Ready, ready, with_tuple, nothing, divide, divided, perform_extension, perform, State, Note, on_world, choose, pick_from, or_stuck, at_moment, Enter, at_node, at_port, with_variant, constant, after_turn, fire_op, fire, firings, region, after_round, jump, enter_op, level, resume}
 use Rattle.hg_laws.specs.Valid.{is_block, block_ins, HasBoundary}
-use Rattle.hg_laws.specs.Value.{Value, Int, Qubit, Variant, Values, no_values, value, values, packed, truth, truth_of, Functions, HasType, HasRow, HaveTypes, functions}
+use Rattle.hg_laws.specs.Value.{Value, Int, Qubit, Variant, Values, no_values, value, values, packed, truth, Functions, HasType, HasRow, HaveTypes, functions}
 use Rattle.hg_laws.proofs.Runs.{Giving, Gives, then_gives, no_types, on_world_gives}
 use Rattle.hg_laws.proofs.Values.{has_at, have-append, row_have, have_row, no_row, variant_row, row_variant}
+use Rattle.hg_laws.proofs.Matches.{qubit_case, two_qubits_case, three_qubits_case, angle_case, int_case, two_ints_case, bool_case, two_bools_case}
 use Rattle.hg_laws.proofs.Looks.{In-ready}
 use Rattle.hg_laws.proofs.Flow.{IsRegion, Sound, typed_inputs, sound_plus, sound_start}
 use Rattle.hg_laws.proofs.Children.{get_in, child_is, kid_is}
@@ -43,45 +44,8 @@ pub stuck_gives : {S A : Type 0} (Q : A → Type 0) → Gives {S = S} Q (stop Ra
 stuck_gives Q = record { gives = λ s. tt }
 
 -- ---- extension ops
-with_bool_gives : (Q : List Value → Type 0) (o : Option Bool) (k : Bool → Run World (List Value)) → ((b : Bool) → Gives Q (k b)) → Gives Q (if_truth o k)
-with_bool_gives Q None k h = record { gives = λ w. tt }
-with_bool_gives Q (Some b) k h = h b
-
-module _ (F : Functions) (Q : List Value → Type 0) where
-  qubit_gives : (vs : List Value) (k : ℕ → Run World (List Value)) → ((q : ℕ) → Gives Q (k q)) → Gives Q (with_qubit vs k)
-  qubit_gives (Qubit q ∷ []) k h = h q
-  qubit_gives _ k h = record { gives = λ w. tt }
-
-  two_qubits_give : (vs : List Value) (k : ℕ → ℕ → Run World (List Value)) → ((p q : ℕ) → Gives Q (k p q)) → Gives Q (with_two_qubits vs k)
-  two_qubits_give (Qubit p ∷ Qubit q ∷ []) k h = h p q
-  two_qubits_give _ k h = record { gives = λ w. tt }
-
-  three_qubits_give : (vs : List Value) (k : ℕ → ℕ → ℕ → Run World (List Value)) → ((p q r : ℕ) → Gives Q (k p q r)) → Gives Q (with_three_qubits vs k)
-  three_qubits_give (Qubit p ∷ Qubit q ∷ Qubit r ∷ []) k h = h p q r
-  three_qubits_give _ k h = record { gives = λ w. tt }
-
-  angle_gives : (vs : List Value) (k : ℕ → ℤ → Run World (List Value)) → ((q : ℕ) (a : ℤ) → Gives Q (k q a)) → Gives Q (with_angle vs k)
-  angle_gives (Qubit q ∷ Int a ∷ []) k h = h q a
-  angle_gives _ k h = record { gives = λ w. tt }
-
-  int_gives : (vs : List Value) (k : ℤ → Run World (List Value)) → ((a : ℤ) → Gives Q (k a)) → Gives Q (with_int vs k)
-  int_gives (Int a ∷ []) k h = h a
-  int_gives _ k h = record { gives = λ w. tt }
-
-  two_ints_give : (vs : List Value) (k : ℤ → ℤ → Run World (List Value)) → ((a b : ℤ) → Gives Q (k a b)) → Gives Q (with_two_ints vs k)
-  two_ints_give (Int a ∷ Int b ∷ []) k h = h a b
-  two_ints_give _ k h = record { gives = λ w. tt }
-
-  bool_gives : (vs : List Value) (k : Bool → Run World (List Value)) → ((b : Bool) → Gives Q (k b)) → Gives Q (with_bool vs k)
-  bool_gives (v ∷ []) k h = with_bool_gives Q (truth_of v) k h
-  bool_gives _ k h = record { gives = λ w. tt }
-
-  two_bools_give : (vs : List Value) (k : Bool → Bool → Run World (List Value)) → ((a b : Bool) → Gives Q (k a b)) → Gives Q (with_two_bools vs k)
-  two_bools_give (u ∷ v ∷ []) k h = with_bool_gives Q (truth_of u) _ (λ a. with_bool_gives Q (truth_of v) _ (h a))
-  two_bools_give _ k h = record { gives = λ w. tt }
-
-  after_gives : {A : Type 0} (m : Run World A) (k : A → Run World (List Value)) → ((a : A) → Gives Q (k a)) → Gives Q (m >>= k)
-  after_gives m k h = then_gives (λ _. Unit {0}) Q m k (no_types m) (λ a _. h a)
+after_gives : {A : Type 0} (Q : List Value → Type 0) (m : Run World A) (k : A → Run World (List Value)) → ((a : A) → Gives Q (k a)) → Gives Q (m >>= k)
+after_gives Q m k h = then_gives (λ _. Unit {0}) Q m k (no_types m) (λ a _. h a)
 
 module _ (F : Functions) where
   truth_typed : (b : Bool) → HasType F (truth b) bool_type
@@ -111,24 +75,24 @@ module _ (F : Functions) where
 
   pub extension_gives : (e : Extension) (vs : List Value) → HaveTypes F vs (extension_ins e) → Gives (λ us. HaveTypes F us (extension_outs e)) (perform_extension e vs)
   unfolding perform_extension
-  extension_gives op.Alloc [] h = after_gives F (Of (type.Qubit ∷ [])) allocate (λ q. ret (Qubit q ∷ [])) (λ q. record { gives = λ w. (tt, tt) })
+  extension_gives op.Alloc [] h = after_gives (Of (type.Qubit ∷ [])) allocate (λ q. ret (Qubit q ∷ [])) (λ q. record { gives = λ w. (tt, tt) })
   extension_gives op.Alloc (v ∷ vs) h = absurd h
-  extension_gives op.Free vs h = qubit_gives F (Of []) vs _ (λ q. after_gives F (Of []) (free q) nothing (λ _. record { gives = λ w. tt }))
-  extension_gives op.MeasureFree vs h = qubit_gives F (Of (bool_type ∷ [])) vs _ (λ q. after_gives F (Of (bool_type ∷ [])) (measure_free q) (λ b. ret (truth b ∷ [])) (λ b. record { gives = λ w. (truth_typed b, tt) }))
-  extension_gives op.Measure vs h = qubit_gives F (Of (type.Qubit ∷ bool_type ∷ [])) vs _ (λ q. after_gives F (Of (type.Qubit ∷ bool_type ∷ [])) (measure q) (λ b. ret (Qubit q ∷ truth b ∷ [])) (λ b. record { gives = λ w. (tt, (truth_typed b, tt)) }))
-  extension_gives op.Reset vs h = qubit_gives F (Of (type.Qubit ∷ [])) vs _ (λ q. after_gives F (Of (type.Qubit ∷ [])) (reset q) (λ _. ret (Qubit q ∷ [])) (λ _. record { gives = λ w. (tt, tt) }))
-  extension_gives (op.Gate1 gate) vs h = qubit_gives F (Of (type.Qubit ∷ [])) vs _ (λ q. after_gives F (Of (type.Qubit ∷ [])) (apply_gate (one_qubit_name gate) q) (λ _. ret (Qubit q ∷ [])) (λ _. record { gives = λ w. (tt, tt) }))
-  extension_gives (op.Gate2 gate) vs h = two_qubits_give F (Of (type.Qubit ∷ type.Qubit ∷ [])) vs _ (λ p q. after_gives F (Of (type.Qubit ∷ type.Qubit ∷ [])) (apply_gate_on_two (two_qubit_name gate) p q) (λ _. ret (Qubit p ∷ Qubit q ∷ [])) (λ _. record { gives = λ w. (tt, (tt, tt)) }))
-  extension_gives op.Toffoli vs h = three_qubits_give F (Of (type.Qubit ∷ type.Qubit ∷ type.Qubit ∷ [])) vs _ (λ p q r. after_gives F (Of (type.Qubit ∷ type.Qubit ∷ type.Qubit ∷ [])) (apply_gate_on_three name.Toffoli p q r) (λ _. ret (Qubit p ∷ Qubit q ∷ Qubit r ∷ [])) (λ _. record { gives = λ w. (tt, (tt, (tt, tt))) }))
-  extension_gives (op.Rotation gate) vs h = angle_gives F (Of (type.Qubit ∷ [])) vs _ (λ q a. after_gives F (Of (type.Qubit ∷ [])) (rotate (rotation_name gate) q a) (λ _. ret (Qubit q ∷ [])) (λ _. record { gives = λ w. (tt, tt) }))
-  extension_gives (op.ResultInt tag) vs h = int_gives F (Of []) vs _ (λ a. after_gives F (Of []) (does (event.ResultInt tag a)) nothing (λ _. record { gives = λ w. tt }))
-  extension_gives (op.ResultBool tag) vs h = bool_gives F (Of []) vs _ (λ a. after_gives F (Of []) (does (event.ResultBool tag a)) nothing (λ _. record { gives = λ w. tt }))
-  extension_gives (op.Calculate which) vs h = two_ints_give F (Of (type.Int ∷ [])) vs _ (λ a b. record { gives = λ w. (tt, tt) })
-  extension_gives (op.Divide which) vs h = two_ints_give F (Of (type.Int ∷ [])) vs _ (divide_gives which)
-  extension_gives op.Negate vs h = int_gives F (Of (type.Int ∷ [])) vs _ (λ a. record { gives = λ w. (tt, tt) })
-  extension_gives (op.Compare which) vs h = two_ints_give F (Of (bool_type ∷ [])) vs _ (λ a b. record { gives = λ w. (truth_typed _, tt) })
-  extension_gives op.Not vs h = bool_gives F (Of (bool_type ∷ [])) vs _ (λ a. record { gives = λ w. (truth_typed _, tt) })
-  extension_gives (op.CompareBools which) vs h = two_bools_give F (Of (bool_type ∷ [])) vs _ (λ a b. record { gives = λ w. (truth_typed _, tt) })
+  extension_gives op.Free vs h = qubit_case (Gives (Of [])) (stuck_gives (Of [])) vs _ (λ q. after_gives (Of []) (free q) nothing (λ _. record { gives = λ w. tt }))
+  extension_gives op.MeasureFree vs h = qubit_case (Gives (Of (bool_type ∷ []))) (stuck_gives (Of (bool_type ∷ []))) vs _ (λ q. after_gives (Of (bool_type ∷ [])) (measure_free q) (λ b. ret (truth b ∷ [])) (λ b. record { gives = λ w. (truth_typed b, tt) }))
+  extension_gives op.Measure vs h = qubit_case (Gives (Of (type.Qubit ∷ bool_type ∷ []))) (stuck_gives (Of (type.Qubit ∷ bool_type ∷ []))) vs _ (λ q. after_gives (Of (type.Qubit ∷ bool_type ∷ [])) (measure q) (λ b. ret (Qubit q ∷ truth b ∷ [])) (λ b. record { gives = λ w. (tt, (truth_typed b, tt)) }))
+  extension_gives op.Reset vs h = qubit_case (Gives (Of (type.Qubit ∷ []))) (stuck_gives (Of (type.Qubit ∷ []))) vs _ (λ q. after_gives (Of (type.Qubit ∷ [])) (reset q) (λ _. ret (Qubit q ∷ [])) (λ _. record { gives = λ w. (tt, tt) }))
+  extension_gives (op.Gate1 gate) vs h = qubit_case (Gives (Of (type.Qubit ∷ []))) (stuck_gives (Of (type.Qubit ∷ []))) vs _ (λ q. after_gives (Of (type.Qubit ∷ [])) (apply_gate (one_qubit_name gate) q) (λ _. ret (Qubit q ∷ [])) (λ _. record { gives = λ w. (tt, tt) }))
+  extension_gives (op.Gate2 gate) vs h = two_qubits_case (Gives (Of (type.Qubit ∷ type.Qubit ∷ []))) (stuck_gives (Of (type.Qubit ∷ type.Qubit ∷ []))) vs _ (λ p q. after_gives (Of (type.Qubit ∷ type.Qubit ∷ [])) (apply_gate_on_two (two_qubit_name gate) p q) (λ _. ret (Qubit p ∷ Qubit q ∷ [])) (λ _. record { gives = λ w. (tt, (tt, tt)) }))
+  extension_gives op.Toffoli vs h = three_qubits_case (Gives (Of (type.Qubit ∷ type.Qubit ∷ type.Qubit ∷ []))) (stuck_gives (Of (type.Qubit ∷ type.Qubit ∷ type.Qubit ∷ []))) vs _ (λ p q r. after_gives (Of (type.Qubit ∷ type.Qubit ∷ type.Qubit ∷ [])) (apply_gate_on_three name.Toffoli p q r) (λ _. ret (Qubit p ∷ Qubit q ∷ Qubit r ∷ [])) (λ _. record { gives = λ w. (tt, (tt, (tt, tt))) }))
+  extension_gives (op.Rotation gate) vs h = angle_case (Gives (Of (type.Qubit ∷ []))) (stuck_gives (Of (type.Qubit ∷ []))) vs _ (λ q a. after_gives (Of (type.Qubit ∷ [])) (rotate (rotation_name gate) q a) (λ _. ret (Qubit q ∷ [])) (λ _. record { gives = λ w. (tt, tt) }))
+  extension_gives (op.ResultInt tag) vs h = int_case (Gives (Of [])) (stuck_gives (Of [])) vs _ (λ a. after_gives (Of []) (does (event.ResultInt tag a)) nothing (λ _. record { gives = λ w. tt }))
+  extension_gives (op.ResultBool tag) vs h = bool_case (Gives (Of [])) (stuck_gives (Of [])) vs _ (λ a. after_gives (Of []) (does (event.ResultBool tag a)) nothing (λ _. record { gives = λ w. tt }))
+  extension_gives (op.Calculate which) vs h = two_ints_case (Gives (Of (type.Int ∷ []))) (stuck_gives (Of (type.Int ∷ []))) vs _ (λ a b. record { gives = λ w. (tt, tt) })
+  extension_gives (op.Divide which) vs h = two_ints_case (Gives (Of (type.Int ∷ []))) (stuck_gives (Of (type.Int ∷ []))) vs _ (divide_gives which)
+  extension_gives op.Negate vs h = int_case (Gives (Of (type.Int ∷ []))) (stuck_gives (Of (type.Int ∷ []))) vs _ (λ a. record { gives = λ w. (tt, tt) })
+  extension_gives (op.Compare which) vs h = two_ints_case (Gives (Of (bool_type ∷ []))) (stuck_gives (Of (bool_type ∷ []))) vs _ (λ a b. record { gives = λ w. (truth_typed _, tt) })
+  extension_gives op.Not vs h = bool_case (Gives (Of (bool_type ∷ []))) (stuck_gives (Of (bool_type ∷ []))) vs _ (λ a. record { gives = λ w. (truth_typed _, tt) })
+  extension_gives (op.CompareBools which) vs h = two_bools_case (Gives (Of (bool_type ∷ []))) (stuck_gives (Of (bool_type ∷ []))) vs _ (λ a b. record { gives = λ w. (truth_typed _, tt) })
   extension_gives (op.Unpack types) vs h = tuple_gives types vs h
 
   -- a Tag of a row that there is

@@ -11,4 +11,7 @@ pub mod Matches
 pub mod Steps
 pub mod Typed
 pub mod Cleanly
+pub mod Bounds
+pub mod Diamond
+pub mod Alike
 mod Samples

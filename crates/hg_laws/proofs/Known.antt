@@ -196,7 +196,7 @@ within g n name i o e = elim (cases_lt n (length g.nodes)) [ inl l ↦ l | inr l
     no h = cc
 
 -- ---- rules
-inner_of : (o : Op) → stands_in_region o ≡ true → is_boundary o ≡ false → is_inner o ≡ true
+pub inner_of : (o : Op) → stands_in_region o ≡ true → is_boundary o ≡ false → is_inner o ≡ true
 inner_of (Const v) s b = refl
 inner_of (Dfg i o) s b = refl
 inner_of (Cfg i o) s b = refl
@@ -208,7 +208,7 @@ inner_of LoadConstant s b = refl
 inner_of (Ext e) s b = refl
 inner_of _ s b = absurd cc
 
-in_container : (o child : Op) → is_dataflow_container o ≡ true → may_stand_in o child ≡ true → stands_in_region child ≡ true
+pub in_container : (o child : Op) → is_dataflow_container o ≡ true → may_stand_in o child ≡ true → stands_in_region child ≡ true
 in_container (FuncDefn n i o) child d m = m
 in_container (Dfg i o) child d m = m
 in_container (Case i o) child d m = m
@@ -221,7 +221,7 @@ exit_in : (o : Op) (t : Types) → may_stand_in o (ExitBlock t) ≡ true → (i 
 exit_in (Cfg i o) t m = (i, o, refl)
 exit_in _ t m = absurd cc
 
-positive : (n : ℕ) → n ≢ 0 → 0 < n
+pub positive : (n : ℕ) → n ≢ 0 → 0 < n
 positive n ne = omega arith
 
 module _ (g : Graph) (V : IsValid g) where
@@ -378,7 +378,7 @@ module _ (g : Graph) (V : IsValid g) where
   }
 
 module _ (g : Graph) (K : Known g) where
-  pub region_of : (c : ℕ) → is_dataflow_container (op_at g c) ≡ true → HasBoundary g c → HasRegion g c
+  unfoldable pub region_of : (c : ℕ) → is_dataflow_container (op_at g c) ≡ true → HasBoundary g c → HasRegion g c
   region_of c f B = record {
     input = B.input;
     output = B.output;

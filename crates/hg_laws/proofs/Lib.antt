@@ -14,4 +14,9 @@ pub mod Cleanly
 pub mod Bounds
 pub mod Diamond
 pub mod Alike
+pub mod Forms
+pub mod Order
+pub mod AnyOrder
+pub mod AnyFirst
+pub mod Main
 mod Samples

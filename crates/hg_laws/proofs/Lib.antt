@@ -18,5 +18,6 @@ pub mod Forms
 pub mod Order
 pub mod AnyOrder
 pub mod AnyFirst
+pub mod Carry
 pub mod Main
 mod Samples

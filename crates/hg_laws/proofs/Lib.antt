@@ -19,5 +19,6 @@ pub mod Order
 pub mod AnyOrder
 pub mod AnyFirst
 pub mod Carry
+pub mod Counts
 pub mod Main
 mod Samples

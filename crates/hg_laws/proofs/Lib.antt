@@ -20,5 +20,6 @@ pub mod AnyOrder
 pub mod AnyFirst
 pub mod Carry
 pub mod Counts
+pub mod Safe
 pub mod Main
 mod Samples

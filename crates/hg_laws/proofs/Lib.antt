@@ -21,5 +21,6 @@ pub mod AnyFirst
 pub mod Carry
 pub mod Counts
 pub mod Safe
+pub mod Ports
 pub mod Main
 mod Samples

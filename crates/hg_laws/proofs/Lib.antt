@@ -22,5 +22,7 @@ pub mod Carry
 pub mod Counts
 pub mod Safe
 pub mod Ports
+pub mod Mirrors
+pub mod Places
 pub mod Main
 mod Samples

@@ -1,12 +1,37 @@
 //! Laws of program graphs and their runs. Each function does nothing: its contract is the law.
 #![tactic(auto)]
 
-ghost use Rattle.hg_laws.specs.Laws.{RunsAreClean, PicksChangeNothing, BoundsSuffice, RunsUnfold, AnyReadyFirst};
+ghost use Rattle.hg_laws.specs.Laws.{ValidGraphsKeepPlaces, MomentsChangeNothing, ValidGraphsEndWell, RunsAreClean, ClosedRunsHoldNone, PicksChangeNothing, BoundsSuffice, RunsUnfold, AnyReadyFirst};
+
+/// In a valid graph, under any picks and from proper arguments, each moment of a run keeps these facts together: each
+/// qubit that is live and was allocated in this run or came with its arguments occurs exactly once in the values at
+/// unread linear output ports of the open regions, and no other qubit occurs there; each value in a fired list has its
+/// port's type; the feeders of each node that has fired or runs are in the list, and so are the sources of its order
+/// links; no node stands twice in a list, and a running child doesn't stand in it.
+pub fn valid_graphs_keep_places()
+    ensures { ValidGraphsKeepPlaces }
+{}
+
+/// The run that writes its moments down is the plain run.
+pub fn moments_change_nothing()
+    ensures { MomentsChangeNothing }
+{}
+
+/// A run of a valid graph from proper arguments is never stuck. Where it returns, the outputs have their types, the live
+/// qubits of the run are those of its outputs, each of which stands there once, and no other qubit has changed.
+pub fn valid_graphs_end_well()
+    ensures { ValidGraphsEndWell }
+{}
 
 /// The events of a run of whatever graph name live qubits only, and none twice in a gate; they lead from the live
 /// qubits before the run to those after it.
 pub fn runs_are_clean()
     ensures { RunsAreClean }
+{}
+
+/// A function of a valid graph that has no inputs and no linear output holds no qubit where its run returns.
+pub fn closed_runs_hold_none()
+    ensures { ClosedRunsHoldNone }
 {}
 
 /// In a valid ordered graph the run under any picks is the run under none: the same events, the same end with the same

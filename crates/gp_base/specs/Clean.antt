@@ -1,10 +1,10 @@
 -- Lists of events that use live qubits only.
-use Rattle.std.specs.Prelude.{◌≡◌, ℕ, Bool, true, if◌then◌else◌, not, ◌&&◌, ◌==◌, List, [], ◌∷◌, ◌++◌, length, Option, Some, None, IsSome, option_and_then}
+use Rattle.std.specs.Prelude.{◌≡◌, ℕ, Bool, true, if◌then◌else◌, ◌==◌, List, [], ◌∷◌, ◌++◌, length, Option, Some, None, IsSome, option_and_then}
 use Rattle.gp_base.specs.declared.event.Event.{Event}
 use Rattle.gp_base.specs.declared.event.Event.TheVariants.{Alloc, Free, MeasureFree, Measure, Reset, Gate1, Gate2, Gate3, Rotation, ResultInt, ResultBool}
 use Rattle.gp_base.specs.declared.event.GateName.{GateName}
 use Rattle.gp_base.specs.Run.{Out, Returned, Stopped}
-use Rattle.gp_base.specs.World.{World, start, is_live, ended, allocate, free, apply_gate}
+use Rattle.gp_base.specs.World.{World, start, is_live, are_two_live, are_three_live, ended, allocate, free, apply_gate}
 
 -- the flags, where the test holds
 abbrev pub where_true : Bool → List Bool → Option (List Bool)
@@ -19,9 +19,8 @@ flags_after_event (MeasureFree q outcome) flags = where_true (is_live flags q) (
 flags_after_event (Measure q outcome) flags = where_true (is_live flags q) flags
 flags_after_event (Reset q) flags = where_true (is_live flags q) flags
 flags_after_event (Gate1 gate q) flags = where_true (is_live flags q) flags
-flags_after_event (Gate2 gate p q) flags = where_true (is_live flags p && is_live flags q && not (p == q)) flags
-flags_after_event (Gate3 gate p q r) flags =
-    where_true (is_live flags p && is_live flags q && is_live flags r && not (p == q) && not (p == r) && not (q == r)) flags
+flags_after_event (Gate2 gate p q) flags = where_true (are_two_live flags p q) flags
+flags_after_event (Gate3 gate p q r) flags = where_true (are_three_live flags p q r) flags
 flags_after_event (Rotation gate q angle) flags = where_true (is_live flags q) flags
 flags_after_event (ResultInt tag n) flags = Some flags
 flags_after_event (ResultBool tag b) flags = Some flags
@@ -38,6 +37,12 @@ IsClean es flags = IsSome (flags_after es flags)
 -- the events of a world are clean from the start, and leave the world's flags
 abbrev pub IsCleanWorld : World → Type 0
 IsCleanWorld w = flags_after w.events [] ≡ Some w.flags
+
+-- from one world to another by events that are clean from the first and leave the flags of the second
+pub record IsCleanBetween (before after : World) : Type 0 where
+  pub events : List Event
+  pub appended : after.events ≡ before.events ++ events
+  pub clean : flags_after events before.flags ≡ Some after.flags
 
 -- the world in which a run ended
 abbrev pub world_after : {A : Type 0} → Out World A → World

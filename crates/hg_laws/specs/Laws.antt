@@ -1,0 +1,71 @@
+-- What holds of all runs.
+use Rattle.std.specs.Prelude.{◌≡◌, ℕ, suc, ◌<◌, ◌≤◌, Bool, true, false, List, [], ◌∷◌, length}
+use Rattle.gp_base.specs.Clean.{IsCleanBetween, world_after}
+use Rattle.gp_base.specs.Run.{Run, Returned, ◌>>=◌}
+use Rattle.gp_base.specs.World.{World, start, is_live}
+use Rattle.hg_ops.specs.GraphType.{GraphType, is_linear}
+use Rattle.hg_ops.specs.Op.{Types, FuncDefn, is_dataflow_container}
+use Rattle.hg_laws.specs.Graph.{Graph, In, op_at}
+use Rattle.hg_laws.specs.Moments.{Moment, HasOnePlace, EachMoment, IsProper, ReturnsItsQubits, EndsWell, IsPartway, noted_run, notes_of}
+use Rattle.hg_laws.specs.Ordered.{IsOrdered}
+use Rattle.hg_laws.specs.Run.{Fired, Open, outs_at, Ready, ready, State, Note, no_note, fire, firings, enter_op, level, resume, runs, world_out, graph_run}
+use Rattle.hg_laws.specs.Valid.{IsValid, HasBoundary}
+use Rattle.hg_laws.specs.Value.{Value}
+
+-- In a valid graph, whoever wrote it, under any picks and from proper arguments, each qubit has one place at each moment.
+abbrev pub ValidGraphsKeepPlaces : Type 0
+ValidGraphsKeepPlaces =
+    (g : Graph) → IsValid g → (f : ℕ) (arguments : List Value) (w : World) → IsProper g f arguments w → (picks : List ℕ)
+    → EachMoment (HasOnePlace g w arguments) (notes_of (noted_run g f arguments w picks))
+
+-- The run that writes its moments down is the plain run, of whatever graph.
+abbrev pub MomentsChangeNothing : Type 0
+MomentsChangeNothing =
+    (g : Graph) (f : ℕ) (arguments : List Value) (w : World) (picks : List ℕ)
+    → world_out (noted_run g f arguments w picks) ≡ graph_run g f arguments w picks
+
+-- No end of such a run is stuck, and where it returns its outputs have the qubits that are live.
+abbrev pub ValidGraphsEndWell : Type 0
+ValidGraphsEndWell =
+    (g : Graph) → IsValid g → (f : ℕ) (arguments : List Value) (w : World) (proper : IsProper g f arguments w) (picks : List ℕ)
+    → EndsWell (ReturnsItsQubits g w arguments proper.outs) (graph_run g f arguments w picks)
+
+-- The events of a run are clean from its world and leave the flags of the world after it, of whatever graph.
+abbrev pub RunsAreClean : Type 0
+RunsAreClean =
+    (g : Graph) (f : ℕ) (arguments : List Value) (w : World) (picks : List ℕ) → IsCleanBetween w (world_after (graph_run g f arguments w picks))
+
+-- A function without inputs and without a linear output, run from the start, holds no qubit where it returns.
+abbrev pub ClosedRunsHoldNone : Type 0
+ClosedRunsHoldNone =
+    (g : Graph) → IsValid g → (f : ℕ) (name : List ℕ) (outs : Types) → f < length g.nodes → op_at g f ≡ FuncDefn name [] outs
+    → ((type : GraphType) → In type outs → is_linear type ≡ false) → (turns : ℕ) (outcomes : List Bool) (picks : List ℕ) (returned : List Value) (w : World)
+    → graph_run g f [] (start turns outcomes) picks ≡ Returned returned w → (q : ℕ) → is_live w.flags q ≡ false
+
+-- In a valid ordered graph the run under any picks is the run under none.
+abbrev pub PicksChangeNothing : Type 0
+PicksChangeNothing =
+    (g : Graph) → IsValid g → IsOrdered g → (f : ℕ) (arguments : List Value) (w : World) → IsProper g f arguments w → (picks : List ℕ)
+    → graph_run g f arguments w picks ≡ graph_run g f arguments w []
+
+-- More turns and a greater depth change no run of a valid graph.
+abbrev pub BoundsSuffice : Type 0
+BoundsSuffice =
+    (g : Graph) → IsValid g → (turns depth n : ℕ) (outer : List Open) (vs : List Value) (s : State (Unit {0}))
+    → s.world.turns ≤ turns → length g.nodes ≤ depth → level no_note g (resume no_note g turns) depth outer n vs s ≡ runs no_note g outer n vs s
+
+-- A run of a valid graph is what its node does with the runs of further nodes.
+abbrev pub RunsUnfold : Type 0
+RunsUnfold =
+    (g : Graph) → IsValid g → (outer : List Open) (n : ℕ) (vs : List Value) (s : State (Unit {0}))
+    → runs no_note g outer n vs s ≡ enter_op no_note g (runs no_note g) (runs no_note g) (op_at g n) outer n vs s
+
+-- In a valid ordered graph a region may be run by firing any ready node first.
+abbrev pub AnyReadyFirst : Type 0
+AnyReadyFirst =
+    (g : Graph) → IsValid g → IsOrdered g → (c : ℕ) → c < length g.nodes → is_dataflow_container (op_at g c) ≡ true
+    → (boundary : HasBoundary g c) (count : ℕ) (fired : List Fired) (r : Ready) → IsPartway g c boundary.input (outs_at fired) (suc count) → In r (ready g c (outs_at fired))
+    → (outer others : List Open) (s t : State (Unit {0})) → s.world ≡ t.world
+    → world_out (firings no_note g (fire no_note g (runs no_note g) (runs no_note g)) outer c boundary.output (suc count) fired s)
+    ≡ world_out ((fire no_note g (runs no_note g) (runs no_note g) others r.node r.ins
+    >>= (λ outs. firings no_note g (fire no_note g (runs no_note g) (runs no_note g)) outer c boundary.output count (record { node = r.node; outs = outs } ∷ fired))) t)

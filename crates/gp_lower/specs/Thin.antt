@@ -4,7 +4,7 @@ use Rattle.gp_base.specs.Run.{Returned}
 use Rattle.gp_base.specs.World.{World}
 use Rattle.gp_parse.specs.declared.thin_text.ThinLine.{ThinLine}
 use Rattle.gp_parse.specs.declared.thin_text.ThinLine.TheVariants as line
-use Rattle.hg_graph.specs.Op as op
+use Rattle.hg_ops.specs.Op as op
 use Rattle.hg_graph.specs.Graph.{Graph}
 use Rattle.hg_graph.specs.Run.{run_function}
 use Rattle.hg_graph.specs.Thin.{ThinGate, H, X, thin_after}
@@ -27,9 +27,9 @@ AreComplete lines = (gates : List ThinGate) × (lines ≡ complete_lines gates)
 
 -- the op that a line becomes
 abbrev pub line_op : ThinLine → op.Op
-line_op line.H = op.H
-line_op line.X = op.X
-line_op line.Discard = op.Free
+line_op line.H = op.Ext (op.Gate1 op.H)
+line_op line.X = op.Ext (op.Gate1 op.X)
+line_op line.Discard = op.Ext op.Free
 
 -- In every world and under every list of picks `main` returns, with the events of these gates on the
 -- world's next qubit. A pick is taken for each node that fires; the empty list fires the ready node of the
@@ -37,5 +37,5 @@ line_op line.Discard = op.Free
 abbrev pub RunsGates : List ThinGate → Graph → Type 0
 RunsGates gates g =
     (w : World) (picks : List ℕ)
-    → run_function g 1 [] (record { world = w; picks = picks })
-    ≡ Returned [] (record { world = thin_after gates w; picks = drop (length gates + 2) picks })
+    → run_function g 1 [] (record { world = w; picks = picks; notes = tt })
+    ≡ Returned [] (record { world = thin_after gates w; picks = drop (length gates + 2) picks; notes = tt })

@@ -5,7 +5,7 @@ ghost use Rattle.gp_lower.specs.Growing.{grown};
 ghost use Rattle.gp_lower.specs.Thin.{AreComplete, RunsGates, complete_lines, line_op};
 ghost use Rattle.hg_graph.specs.Graph.{Ports, Order};
 ghost use Rattle.hg_graph.specs.Rules.{InputsLinkedOnce, LinearOutputsLinkedOnce};
-ghost use Rattle.hg_graph.specs.View.{op_view};
+ghost use Rattle.hg_ops.specs.OpView.{op_view};
 ghost use Rattle.hg_graph.specs.Thin.{ThinGate, in_main, thin_graph};
 
 #[cfg(test)]
@@ -13,7 +13,8 @@ mod tests;
 
 use gp_base::Name;
 use gp_parse::{ThinLine, ThinLines};
-use hg_graph::{Graph, NodeId, OpKind, Port};
+use hg_graph::{Graph, NodeId, Port};
+use hg_ops::{OpKind, Row};
 use std::alloc::{AllocError, Global};
 
 // The number of the function `main`, and of the module around it.
@@ -60,9 +61,18 @@ fn allocating(alloc: Global) -> Result<Graph, AllocError>
 {
     let mut graph = Graph::new(alloc)?;
     let name = Name::new(alloc, "main")?;
-    graph.add_node(OpKind::FuncDefn { name }, MODULE)?;
-    graph.add_node(OpKind::Input, MAIN)?;
-    graph.add_node(OpKind::Output, MAIN)?;
+    graph.add_node(
+        OpKind::FuncDefn {
+            name,
+            ins: Row::new(alloc),
+            outs: Row::new(alloc),
+        },
+        MODULE,
+    )?;
+    let types = Row::new(alloc);
+    graph.add_node(OpKind::Input { types }, MAIN)?;
+    let types = Row::new(alloc);
+    graph.add_node(OpKind::Output { types }, MAIN)?;
     graph.add_node(OpKind::Alloc, MAIN)?;
     Ok(graph)
 }

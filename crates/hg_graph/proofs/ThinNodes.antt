@@ -1,7 +1,7 @@
 -- The nodes of a thin graph.
 use Rattle.std.proofs.Common.{◌≡◌, ℕ, zero, suc, ◌+◌, ◌<◌, ◌≤◌, Bool, true, not, ◌&&◌, ◌==◌, ne_eqb, List, [], ◌∷◌, ◌++◌, length, map, drop, filter, Some, slice_get, refl, ap, ap₂, ◌∙◌, arith}
-use Rattle.hg_graph.specs.Op as op
-use Rattle.hg_graph.specs.Op.{Op, fires}
+use Rattle.hg_ops.specs.Op as op
+use Rattle.hg_ops.specs.Op.{Op, fires}
 use Rattle.hg_graph.specs.Graph.{op_of, parent_of, op_at, parent_at, numbers, children, firing_children}
 use Rattle.hg_graph.specs.Thin.{ThinGate, H, X, gate_op, in_main, thin_graph}
 use Rattle.hg_graph.proofs.ThinNumbers.{filter_all}
@@ -14,7 +14,7 @@ node_of i = suc (suc (suc (suc i)))
 
 -- the ops behind the first
 abbrev pub after_first : List ThinGate → List Op
-after_first gates = map gate_op gates ++ op.Free ∷ []
+after_first gates = map gate_op gates ++ op.Ext op.Free ∷ []
 
 pub length-after_first : (gates : List ThinGate) → length (after_first gates) ≡ suc (length gates)
 length-after_first [] = refl
@@ -104,6 +104,6 @@ pub op_at-left : (gates : List ThinGate) (i : ℕ) (kind : Op) (rest : List Op) 
 unfolding thin_graph op_at
 op_at-left gates i kind rest e = get_in_main (after_first gates) i kind (get_left (after_first gates) i kind rest e)
 
-pub op_at-first : (gates : List ThinGate) → op_at (thin_graph gates) 4 ≡ op.Alloc
+pub op_at-first : (gates : List ThinGate) → op_at (thin_graph gates) 4 ≡ op.Ext op.Alloc
 unfolding thin_graph op_at
 op_at-first gates = refl

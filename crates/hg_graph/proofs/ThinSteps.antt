@@ -1,11 +1,13 @@
 -- How a region fires where one node is ready.
 use Rattle.std.proofs.Common.{◌≡◌, ◌≢◌, inl, inr, ℕ, zero, suc, ◌+◌, ◌<◌, ◌≤◌, Bool, true, false, cond, List, [], ◌∷◌, length, drop, Some, None, slice_index_or, ◌%◌, filter_map, refl, ap, ap₂, ◌∙◌, arith}
 use Rattle.std.proofs.lemmas.Bool.{cases_lt}
-use Rattle.gp_base.specs.Run.{Returned, go_on}
+use Rattle.gp_base.specs.Run.{Out, Returned, go_on}
 use Rattle.gp_base.specs.World.{World}
-use Rattle.hg_graph.specs.Op.{PortType, ins_of}
+use Rattle.hg_ops.specs.GraphType.{GraphType}
+use Rattle.hg_ops.specs.Op.{Extension, Ext, ins_of}
 use Rattle.hg_graph.specs.Graph.{Graph, op_at, numbers, firing_children, feeder}
-use Rattle.hg_graph.specs.Run.{Value, State, choose, Look, has_fired, outs_at, Fired, orders_kept, value_at, value_of, cons_both, pulled, inputs, Ready, with_inputs, candidate, ready, perform, on_world, with_picks, Firing, firings}
+use Rattle.hg_graph.specs.Value.{Value}
+use Rattle.hg_graph.specs.Run.{State, no_note, Open, Enter, choose, Look, has_fired, outs_at, Fired, orders_kept, value_at, value_of, cons_both, pulled, inputs, Ready, with_inputs, candidate, ready, perform_extension, perform, with_world, fire_op, fire, firings}
 use Rattle.hg_graph.specs.Thin.{chain}
 use Rattle.hg_graph.proofs.ThinNumbers.{filter_map_one}
 use Rattle.hg_graph.proofs.ThinLinks.{first_port, orders_kept_after, orders_kept_before}
@@ -64,7 +66,7 @@ pub no_inputs : (g : Graph) (look : Look) (n : ℕ) → ins_of (op_at g n) ≡ [
 unfolding inputs
 no_inputs g look n e = ap (λ types. pulled g.links look n 0 (length types)) e
 
-pub one_input : (g : Graph) (look : Look) (n before : ℕ) (type : PortType) (v : Value) → ins_of (op_at g n) ≡ type ∷ [] → feeder g.links (first_port n) ≡ Some (first_port before) → look before ≡ Some (v ∷ []) → inputs g look n ≡ Some (v ∷ [])
+pub one_input : (g : Graph) (look : Look) (n before : ℕ) (type : GraphType) (v : Value) → ins_of (op_at g n) ≡ type ∷ [] → feeder g.links (first_port n) ≡ Some (first_port before) → look before ≡ Some (v ∷ []) → inputs g look n ≡ Some (v ∷ [])
 unfolding inputs
 one_input g look n before type v e f o =
     ap (λ types. pulled g.links look n 0 (length types)) e
@@ -72,23 +74,35 @@ one_input g look n before type v e f o =
     ∙ ap (λ outs. cons_both (value_at outs 0) (Some [])) o
 
 -- ---- a step
-choose_one : {A : Type 0} (x : A) (w : World) (picks : List ℕ) → choose (x ∷ []) (record { world = w; picks = picks }) ≡ Returned x (record { world = w; picks = drop 1 picks })
+
+-- a state of a run that writes nothing down
+abbrev pub plain_state : World → List ℕ → State (Unit {0})
+plain_state w picks = record { world = w; picks = picks; notes = tt }
+
+choose_one : {A : Type 0} (x : A) (w : World) (picks : List ℕ) → choose (x ∷ []) (plain_state w picks) ≡ Returned x (plain_state w (drop 1 picks))
 choose_one x w [] = refl
-choose_one x w (k ∷ picks) = ap (λ y. Returned y (record { world = w; picks = picks })) (only (k % 1))
+choose_one x w (k ∷ picks) = ap (λ y. Returned y (plain_state w picks)) (only (k % 1))
   where
     only : (i : ℕ) → slice_index_or (x ∷ []) i x ≡ x
     only zero = refl
     only (suc i) = refl
 
--- what a child without a region does when it fires
-abbrev pub fires_op : Graph → Firing
-fires_op g n ins = on_world (perform (op_at g n) ins)
+-- an op of an extension does what it does to the world
+pub extension_fires : (g : Graph) (inside again : Enter (Unit {0})) (regions : List Open) (n : ℕ) (ins outs : List Value) (e : Extension) (w v : World) (picks : List ℕ) → op_at g n ≡ Ext e → perform_extension e ins w ≡ Returned outs v
+    → fire no_note g inside again regions n ins (plain_state w picks) ≡ Returned outs (plain_state v picks)
+unfolding fire_op perform
+extension_fires g inside again regions n ins outs e w v picks is p =
+    ap (λ kind. fire_op no_note g inside again kind regions n ins (plain_state w picks)) is ∙ ap (with_world (plain_state w picks)) p
 
-pub one_step : (g : Graph) (c output count : ℕ) (fired : List Fired) (w v : World) (picks : List ℕ) (r : Ready) (outs : List Value) → ready g c (outs_at fired) ≡ r ∷ [] → perform (op_at g r.node) r.ins w ≡ Returned outs v
-    → firings g (fires_op g) c output (suc count) fired (record { world = w; picks = picks }) ≡ firings g (fires_op g) c output count (record { node = r.node; outs = outs } ∷ fired) (record { world = v; picks = drop 1 picks })
+-- the one ready child fires
+pub one_step : (g : Graph) (enter : Enter (Unit {0})) (outer : List Open) (c output count : ℕ) (fired : List Fired) (w v : World) (picks : List ℕ) (r : Ready) (outs : List Value) → ready g c (outs_at fired) ≡ r ∷ []
+    → ((regions : List Open) → enter regions r.node r.ins (plain_state w (drop 1 picks)) ≡ Returned outs (plain_state v (drop 1 picks)))
+    → firings no_note g enter outer c output (suc count) fired (plain_state w picks) ≡ firings no_note g enter outer c output count (record { node = r.node; outs = outs } ∷ fired) (plain_state v (drop 1 picks))
 unfolding firings
-one_step g c output count fired w v picks r outs e p =
-    let next = λ (r : Ready). λ (s : State). go_on (fires_op g r.node r.ins s) (λ outs. firings g (fires_op g) c output count (record { node = r.node; outs = outs } ∷ fired)) in
-    ap (λ l. go_on (choose l (record { world = w; picks = picks })) next) e
+one_step g enter outer c output count fired w v picks r outs e p =
+    let regions : Ready → List Open = λ r. record { container = c; fired = fired; running = Some r.node } ∷ outer in
+    let rest : Ready → List Value → State (Unit {0}) → Out (State (Unit {0})) (List Value) = λ r outs. firings no_note g enter outer c output count (record { node = r.node; outs = outs } ∷ fired) in
+    let next : Ready → State (Unit {0}) → Out (State (Unit {0})) (List Value) = λ r s. go_on (enter (regions r) r.node r.ins s) (rest r) in
+    ap (λ l. go_on (choose l (plain_state w picks)) next) e
     ∙ ap (λ o. go_on o next) (choose_one r w picks)
-    ∙ ap (λ o. go_on (with_picks (drop 1 picks) o) (λ outs. firings g (fires_op g) c output count (record { node = r.node; outs = outs } ∷ fired))) p
+    ∙ ap (λ o. go_on o (rest r)) (p (regions r))

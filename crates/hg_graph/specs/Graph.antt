@@ -1,6 +1,6 @@
 -- Program graphs: a list of nodes and a list of links, with look-ups in them.
-use Rattle.std.specs.Prelude.{ℕ, zero, suc, ◌+◌, Bool, not, ◌&&◌, ◌==◌, if◌then◌else◌, List, [], ◌∷◌, length, slice_get, filter, Option, Some, None}
-use Rattle.hg_graph.specs.Op.{Op, Module, fires}
+use Rattle.std.specs.Prelude.{◌≡◌, ◌<◌, ◌⊎◌, ℕ, zero, suc, ◌+◌, Bool, not, ◌&&◌, ◌==◌, if◌then◌else◌, List, [], ◌∷◌, length, slice_get, filter, Option, Some, None}
+use Rattle.hg_ops.specs.Op.{Op, Module, ins_of, fires}
 
 -- A node is named by its place in the list.
 pub record Node : Type 0 where
@@ -58,6 +58,12 @@ feeder [] to = None
 feeder (Ports a b ∷ links) to = if is_port b to then Some a else feeder links to
 feeder (Order a b ∷ links) to = feeder links to
 
+-- the target of the first link out of a port
+abbrev pub taker : List Link → Port → Option Port
+taker [] from = None
+taker (Ports a b ∷ links) from = if is_port a from then Some b else taker links from
+taker (Order a b ∷ links) from = taker links from
+
 -- how many links lead into a port, and how many come out of one
 abbrev pub links_into : List Link → Port → ℕ
 links_into [] port = 0
@@ -68,3 +74,23 @@ abbrev pub links_from : List Link → Port → ℕ
 links_from [] port = 0
 links_from (Ports a b ∷ links) port = (if is_port a port then 1 else 0) + links_from links port
 links_from (Order a b ∷ links) port = links_from links port
+
+-- the port of a node behind its value input ports: where what uses a function or a constant has its static input
+abbrev pub static_input : Graph → ℕ → Port
+static_input g n = record { node = n; index = length (ins_of (op_at g n)) }
+
+-- x stands in the list
+abbrev pub In : {A : Type 0} → A → List A → Type 0
+In x [] = ⊥
+In x (y ∷ ys) = (x ≡ y) ⊎ In x ys
+
+-- both nodes of a link are nodes of the graph
+abbrev pub LinkIsWithin : ℕ → Link → Type 0
+LinkIsWithin count (Ports a b) = (a.node < count) × (b.node < count)
+LinkIsWithin count (Order a b) = (a < count) × (b < count)
+
+-- There is a node, and parents and links name nodes.
+pub record IsGraph (g : Graph) : Type 0 where
+  pub some : 0 < length g.nodes
+  pub parents : (n : ℕ) → n < length g.nodes → parent_at g n < length g.nodes
+  pub links : (link : Link) → In link g.links → LinkIsWithin (length g.nodes) link

@@ -1,7 +1,10 @@
 pub mod Graph
+pub mod Moments
 pub mod NodeView
-pub mod Op
+pub mod Ordered
 pub mod Rules
 pub mod Run
 pub mod Thin
+pub mod Valid
+pub mod Value
 pub mod View

@@ -1,15 +1,12 @@
--- Rules that a graph keeps.
-use Rattle.std.specs.Prelude.{◌≡◌, ℕ, ◌<◌, true, length, slice_get, Some}
-use Rattle.hg_graph.specs.Op.{PortType, ins_of, outs_of, is_linear}
-use Rattle.hg_graph.specs.Graph.{Graph, op_at, links_into, links_from}
+-- Two of the rules of valid graphs, each said of all nodes.
+use Rattle.std.specs.Prelude.{ℕ, ◌<◌, length}
+use Rattle.hg_graph.specs.Graph.{Graph}
+use Rattle.hg_graph.specs.Valid.{InputsAreFed, LinearOutputsAreTaken}
 
 -- each value input port has exactly one link
 abbrev pub InputsLinkedOnce : Graph → Type 0
-InputsLinkedOnce g =
-    (n p : ℕ) → n < length g.nodes → p < length (ins_of (op_at g n)) → links_into g.links (record { node = n; index = p }) ≡ 1
+InputsLinkedOnce g = (n : ℕ) → n < length g.nodes → InputsAreFed g n
 
 -- each linear value output port has exactly one link
 abbrev pub LinearOutputsLinkedOnce : Graph → Type 0
-LinearOutputsLinkedOnce g =
-    (n p : ℕ) (type : PortType) → n < length g.nodes → slice_get (outs_of (op_at g n)) p ≡ Some type → is_linear type ≡ true
-    → links_from g.links (record { node = n; index = p }) ≡ 1
+LinearOutputsLinkedOnce g = (n : ℕ) → n < length g.nodes → LinearOutputsAreTaken g n

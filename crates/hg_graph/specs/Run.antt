@@ -1,42 +1,14 @@
 -- The run of a graph.
-use Rattle.std.specs.Prelude.{ℕ, zero, suc, ◌%◌, Bool, true, not, ◌&&◌, ◌||◌, ◌==◌, if◌then◌else◌, List, [], ◌∷◌, length, slice_get, slice_index_or, filter_map, Option, Some, None, is_some}
+use Rattle.std.specs.Prelude.{ℕ, zero, suc, ◌%◌, ℤ, pos, int_lt, int_le, Bool, true, not, ◌&&◌, ◌||◌, ◌==◌, if◌then◌else◌, ltb, List, [], ◌∷◌, ◌++◌, length, slice_get, slice_index_or, filter_map, Option, Some, None, is_some}
+use Rattle.gp_base.specs.declared.event.Event.TheVariants as event
 use Rattle.gp_base.specs.declared.event.GateName.TheVariants as gate
-use Rattle.gp_base.specs.declared.event.GateName.{GateName}
-use Rattle.gp_base.specs.Run.{Run, Out, Returned, Stopped, Stuck, ◌>>=◌, ret, stop}
-use Rattle.gp_base.specs.World.{World, allocate, free, apply_gate}
-use Rattle.hg_graph.specs.Op.{Op, FuncDefn, Alloc, H, X, Free, ins_of}
-use Rattle.hg_graph.specs.Graph.{Graph, Link, Ports, Order, Port, op_at, children, firing_children, feeder}
-
--- a value at a port: a qubit, by its number
-pub data Value : Type 0 where
-  Qubit : ℕ → Value
-
--- What a run of a graph changes: the world, and the picks that are left. A pick says which of the ready
--- nodes fires next.
-pub record State : Type 0 where
-  pub world : World
-  pub picks : List ℕ
-
-abbrev pub with_picks : {A : Type 0} → List ℕ → Out World A → Out State A
-with_picks picks (Returned a w) = Returned a (record { world = w; picks = picks })
-with_picks picks (Stopped e w) = Stopped e (record { world = w; picks = picks })
-
--- what changes the world alone
-abbrev pub on_world : {A : Type 0} → Run World A → Run State A
-on_world m s = with_picks s.picks (m s.world)
-
-abbrev pub pick_from : {A : Type 0} → A → List A → List ℕ → World → Out State A
-pick_from x xs [] w = Returned x (record { world = w; picks = [] })
-pick_from x xs (k ∷ picks) w = Returned (slice_index_or (x ∷ xs) (k % suc (length xs)) x) (record { world = w; picks = picks })
-
--- takes the next pick, 0 where none is left, and chooses the entry at that place, counted round
-abbrev pub choose : {A : Type 0} → List A → Run State A
-choose [] s = stop Stuck s
-choose (x ∷ xs) s = pick_from x xs s.picks s.world
-
-abbrev pub or_stuck : {A : Type 0} → Option A → Run State A
-or_stuck None = stop Stuck
-or_stuck (Some a) = ret a
+use Rattle.gp_base.specs.Number.{sum, difference, product, negated, quotient, remainder, is_same}
+use Rattle.gp_base.specs.Run.{Run, Out, Returned, Stopped, DivisionByZero, Stuck, ◌>>=◌, ret, stop}
+use Rattle.gp_base.specs.World.{World, allocate, free, apply_gate, apply_gate_on_two, apply_gate_on_three, rotate, reset, measure, measure_free, does, take_turn}
+use Rattle.hg_ops.specs.Op as op
+use Rattle.hg_ops.specs.Op.{Op, Extension, Arithmetic, Division, Comparison, BoolComparison, ins_of, one_qubit_name, two_qubit_name, rotation_name}
+use Rattle.hg_graph.specs.Graph.{Graph, Link, Ports, Order, Port, op_at, children, firing_children, feeder, taker, static_input}
+use Rattle.hg_graph.specs.Value.{Value, Int, Qubit, Variant, values, packed, truth, truth_of}
 
 -- ---- what a region has so far
 
@@ -44,6 +16,12 @@ or_stuck (Some a) = ret a
 pub record Fired : Type 0 where
   pub node : ℕ
   pub outs : List Value
+
+-- an open region: its container, the nodes that have fired, and the child that runs
+pub record Open : Type 0 where
+  pub container : ℕ
+  pub fired : List Fired
+  pub running : Option ℕ
 
 -- the values that each node has given so far, where it has fired
 abbrev pub Look : Type 0
@@ -104,51 +82,260 @@ candidate g look n =
 unfoldable pub ready : Graph → ℕ → Look → List Ready
 ready g c look = filter_map (candidate g look) (firing_children g c)
 
--- ---- firing
+-- ---- what an op without a region does: from the values at its inputs to those at its outputs
 
+-- values of the kinds that an op takes; with others it is stuck
 abbrev pub with_qubit : List Value → (ℕ → Run World (List Value)) → Run World (List Value)
 with_qubit (Qubit q ∷ []) k = k q
 with_qubit _ k = stop Stuck
 
--- a gate on the one qubit that comes in, which goes out again
-abbrev pub gated : GateName → List Value → Run World (List Value)
-gated name values = with_qubit values (λ q. apply_gate name q >>= (λ _. ret (Qubit q ∷ [])))
+abbrev pub with_two_qubits : List Value → (ℕ → ℕ → Run World (List Value)) → Run World (List Value)
+with_two_qubits (Qubit p ∷ Qubit q ∷ []) k = k p q
+with_two_qubits _ k = stop Stuck
 
--- what an op without a region does: from the values at its inputs to those at its outputs
+abbrev pub with_three_qubits : List Value → (ℕ → ℕ → ℕ → Run World (List Value)) → Run World (List Value)
+with_three_qubits (Qubit p ∷ Qubit q ∷ Qubit r ∷ []) k = k p q r
+with_three_qubits _ k = stop Stuck
+
+abbrev pub with_angle : List Value → (ℕ → ℤ → Run World (List Value)) → Run World (List Value)
+with_angle (Qubit q ∷ Int a ∷ []) k = k q a
+with_angle _ k = stop Stuck
+
+abbrev pub with_int : List Value → (ℤ → Run World (List Value)) → Run World (List Value)
+with_int (Int a ∷ []) k = k a
+with_int _ k = stop Stuck
+
+abbrev pub with_two_ints : List Value → (ℤ → ℤ → Run World (List Value)) → Run World (List Value)
+with_two_ints (Int a ∷ Int b ∷ []) k = k a b
+with_two_ints _ k = stop Stuck
+
+abbrev pub if_truth : Option Bool → (Bool → Run World (List Value)) → Run World (List Value)
+if_truth None k = stop Stuck
+if_truth (Some b) k = k b
+
+abbrev pub with_bool : List Value → (Bool → Run World (List Value)) → Run World (List Value)
+with_bool (v ∷ []) k = if_truth (truth_of v) k
+with_bool _ k = stop Stuck
+
+abbrev pub with_two_bools : List Value → (Bool → Bool → Run World (List Value)) → Run World (List Value)
+with_two_bools (u ∷ v ∷ []) k = if_truth (truth_of u) (λ a. if_truth (truth_of v) (k a))
+with_two_bools _ k = stop Stuck
+
+abbrev pub with_tuple : List Value → (List Value → Run World (List Value)) → Run World (List Value)
+with_tuple (Variant zero vs ∷ []) k = k (values vs)
+with_tuple _ k = stop Stuck
+
+abbrev pub calculated : Arithmetic → ℤ → ℤ → ℤ
+calculated op.Add a b = sum a b
+calculated op.Sub a b = difference a b
+calculated op.Mul a b = product a b
+
+abbrev pub divided : Division → ℤ → ℤ → ℤ
+divided op.FloorDiv a b = quotient a b
+divided op.Mod a b = remainder a b
+
+abbrev pub compared : Comparison → ℤ → ℤ → Bool
+compared op.Eq a b = is_same a b
+compared op.Ne a b = not (is_same a b)
+compared op.Lt a b = int_lt a b
+compared op.Le a b = int_le a b
+compared op.Gt a b = int_lt b a
+compared op.Ge a b = int_le b a
+
+abbrev pub same_truth : Bool → Bool → Bool
+same_truth a b = if a then b else not b
+
+abbrev pub compared_bools : BoolComparison → Bool → Bool → Bool
+compared_bools op.BoolEq a b = same_truth a b
+compared_bools op.BoolNe a b = not (same_truth a b)
+
+abbrev pub nothing : {A : Type 0} → A → Run World (List Value)
+nothing _ = ret []
+
+abbrev pub divide : Division → ℤ → ℤ → Run World (List Value)
+divide which a b = if is_same b (pos 0) then stop DivisionByZero else ret (Int (divided which a b) ∷ [])
+
+unfoldable pub perform_extension : Extension → List Value → Run World (List Value)
+perform_extension op.Alloc [] = allocate >>= (λ q. ret (Qubit q ∷ []))
+perform_extension op.Alloc _ = stop Stuck
+perform_extension op.Free vs = with_qubit vs (λ q. free q >>= nothing)
+perform_extension op.MeasureFree vs = with_qubit vs (λ q. measure_free q >>= (λ b. ret (truth b ∷ [])))
+perform_extension op.Measure vs = with_qubit vs (λ q. measure q >>= (λ b. ret (Qubit q ∷ truth b ∷ [])))
+perform_extension op.Reset vs = with_qubit vs (λ q. reset q >>= (λ _. ret (Qubit q ∷ [])))
+perform_extension (op.Gate1 name) vs = with_qubit vs (λ q. apply_gate (one_qubit_name name) q >>= (λ _. ret (Qubit q ∷ [])))
+perform_extension (op.Gate2 name) vs =
+    with_two_qubits vs (λ p q. apply_gate_on_two (two_qubit_name name) p q >>= (λ _. ret (Qubit p ∷ Qubit q ∷ [])))
+perform_extension op.Toffoli vs =
+    with_three_qubits vs (λ p q r. apply_gate_on_three gate.Toffoli p q r >>= (λ _. ret (Qubit p ∷ Qubit q ∷ Qubit r ∷ [])))
+perform_extension (op.Rotation name) vs = with_angle vs (λ q a. rotate (rotation_name name) q a >>= (λ _. ret (Qubit q ∷ [])))
+perform_extension (op.ResultInt tag) vs = with_int vs (λ a. does (event.ResultInt tag a) >>= nothing)
+perform_extension (op.ResultBool tag) vs = with_bool vs (λ b. does (event.ResultBool tag b) >>= nothing)
+perform_extension (op.Calculate which) vs = with_two_ints vs (λ a b. ret (Int (calculated which a b) ∷ []))
+perform_extension (op.Divide which) vs = with_two_ints vs (divide which)
+perform_extension op.Negate vs = with_int vs (λ a. ret (Int (negated a) ∷ []))
+perform_extension (op.Compare which) vs = with_two_ints vs (λ a b. ret (truth (compared which a b) ∷ []))
+perform_extension op.Not vs = with_bool vs (λ a. ret (truth (not a) ∷ []))
+perform_extension (op.CompareBools which) vs = with_two_bools vs (λ a b. ret (truth (compared_bools which a b) ∷ []))
+perform_extension (op.Unpack types) vs = with_tuple vs ret
+
 unfoldable pub perform : Op → List Value → Run World (List Value)
-perform Alloc [] = allocate >>= (λ q. ret (Qubit q ∷ []))
-perform H values = gated gate.H values
-perform X values = gated gate.X values
-perform Free values = with_qubit values (λ q. free q >>= (λ _. ret []))
-perform _ values = stop Stuck
+perform (op.Ext e) vs = perform_extension e vs
+perform (op.Tag rows k) vs = ret (Variant k (packed vs) ∷ [])
+perform _ vs = stop Stuck
 
-abbrev pub at_node : Option ℕ → (ℕ → Run State (List Value)) → Run State (List Value)
+-- ---- the state of a run
+
+-- What a run of a graph changes: the world, the picks that are left, and what it writes down at moments. A pick says
+-- which of the ready nodes fires next.
+pub record State (N : Type 0) : Type 0 where
+  pub world : World
+  pub picks : List ℕ
+  pub notes : N
+
+-- What a run does at a moment: from the regions that are open, outermost last, and the world to further notes. There
+-- is a moment before each firing and one at each region's end.
+abbrev pub Note : Type 0 → Type 0
+Note N = List Open → World → N → N
+
+-- writes nothing down
+abbrev pub no_note : {N : Type 0} → Note N
+no_note regions w notes = notes
+
+abbrev pub with_world : {N A : Type 0} → State N → Out World A → Out (State N) A
+with_world s (Returned a w) = Returned a (record s { world = w })
+with_world s (Stopped e w) = Stopped e (record s { world = w })
+
+-- what changes the world alone
+abbrev pub on_world : {N A : Type 0} → Run World A → Run (State N) A
+on_world m s = with_world s (m s.world)
+
+abbrev pub pick_from : {N A : Type 0} → A → List A → List ℕ → State N → Out (State N) A
+pick_from x xs [] s = Returned x s
+pick_from x xs (k ∷ picks) s = Returned (slice_index_or (x ∷ xs) (k % suc (length xs)) x) (record s { picks = picks })
+
+-- takes the next pick, 0 where none is left, and chooses the entry at that place, counted round
+abbrev pub choose : {N A : Type 0} → List A → Run (State N) A
+choose [] s = stop Stuck s
+choose (x ∷ xs) s = pick_from x xs s.picks s
+
+abbrev pub or_stuck : {S A : Type 0} → Option A → Run S A
+or_stuck None = stop Stuck
+or_stuck (Some a) = ret a
+
+abbrev pub at_moment : {N : Type 0} → Note N → List Open → Run (State N) (Unit {0})
+at_moment note regions s = Returned tt (record s { notes = note regions s.world s.notes })
+
+-- ---- nodes with a region
+
+-- What runs a node: under the regions that are open, from its number and the values that go in to those that come out.
+abbrev pub Enter : Type 0 → Type 0
+Enter N = List Open → ℕ → List Value → Run (State N) (List Value)
+
+abbrev pub at_node : {N : Type 0} → Option ℕ → (ℕ → Run (State N) (List Value)) → Run (State N) (List Value)
 at_node None k = stop Stuck
 at_node (Some n) k = k n
 
--- what happens when a node fires: from its number and the values at its inputs to those at its outputs
-abbrev pub Firing : Type 0
-Firing = ℕ → List Value → Run State (List Value)
+abbrev pub at_port : {N : Type 0} → Option Port → (ℕ → Run (State N) (List Value)) → Run (State N) (List Value)
+at_port None k = stop Stuck
+at_port (Some port) k = k port.node
 
-module _ (g : Graph) where
+-- the number of a variant, with the values of its row followed by the other values
+abbrev pub with_variant : {N : Type 0} → List Value → (ℕ → List Value → Run (State N) (List Value)) → Run (State N) (List Value)
+with_variant (Variant k vs ∷ others) go = go k (values vs ++ others)
+with_variant _ go = stop Stuck
+
+abbrev pub constant : {N : Type 0} → Op → Run (State N) (List Value)
+constant (op.Const n) = ret (Int n ∷ [])
+constant _ = stop Stuck
+
+-- a turn, and then a node
+abbrev pub after_turn : {N : Type 0} → Enter N → Enter N
+after_turn again outer n vs = on_world take_turn >>= (λ _. again outer n vs)
+
+module _ {N : Type 0} (note : Note N) (g : Graph) where
+  -- What happens when a node fires: `inside` runs a node that lies inside, and `again` one after a turn.
+  unfoldable pub fire_op : Enter N → Enter N → Op → Enter N
+  fire_op inside again (op.Dfg ins outs) outer n vs = inside outer n vs
+  fire_op inside again (op.Conditional rows ins outs) outer n vs = inside outer n vs
+  fire_op inside again (op.TailLoop a l r) outer n vs = inside outer n vs
+  fire_op inside again (op.Cfg ins outs) outer n vs = inside outer n vs
+  fire_op inside again (op.Call ins outs) outer n vs = at_port (feeder g.links (static_input g n)) (λ f. after_turn again outer f vs)
+  fire_op inside again op.LoadConstant outer n vs = at_port (feeder g.links (static_input g n)) (λ c. constant (op_at g c))
+  fire_op inside again kind outer n vs = on_world (perform kind vs)
+
+  abbrev pub fire : Enter N → Enter N → Enter N
+  fire inside again outer n vs = fire_op inside again (op_at g n) outer n vs
+
   -- `count` children of the container c are still to fire; in the end the region gives what comes into its `Output`
-  unfoldable pub firings : Firing → (c output count : ℕ) → List Fired → Run State (List Value)
-  firings fire c output zero fired = or_stuck (inputs g (outs_at fired) output)
-  firings fire c output (suc count) fired =
-      choose (ready g c (outs_at fired))
-      >>= (λ r. fire r.node r.ins >>= (λ outs. firings fire c output count (record { node = r.node; outs = outs } ∷ fired)))
+  unfoldable pub firings : Enter N → List Open → (c output count : ℕ) → List Fired → Run (State N) (List Value)
+  firings fire outer c output zero fired =
+      at_moment note (record { container = c; fired = fired; running = None } ∷ outer)
+      >>= (λ _. or_stuck (inputs g (outs_at fired) output))
+  firings fire outer c output (suc count) fired =
+      at_moment note (record { container = c; fired = fired; running = None } ∷ outer)
+      >>= (λ _. choose (ready g c (outs_at fired)))
+      >>= (λ r. fire (record { container = c; fired = fired; running = Some r.node } ∷ outer) r.node r.ins
+      >>= (λ outs. firings fire outer c output count (record { node = r.node; outs = outs } ∷ fired)))
 
   -- the region of a container, on the values that its `Input` gives
-  unfoldable pub region : Firing → Firing
-  region fire c values =
+  unfoldable pub region : Enter N → Enter N
+  region fire outer c vs =
       at_node (slice_get (children g c) 0) (λ input.
       at_node (slice_get (children g c) 1) (λ output.
-      firings fire c output (length (firing_children g c)) (record { node = input; outs = values } ∷ [])))
+      firings fire outer c output (length (firing_children g c)) (record { node = input; outs = vs } ∷ [])))
 
-  abbrev pub run_op : Op → ℕ → List Value → Run State (List Value)
-  run_op (FuncDefn name) f values = region (λ n ins. on_world (perform (op_at g n) ins)) f values
-  run_op _ f values = stop Stuck
+  -- after a round of a loop
+  abbrev pub after_round : Enter N → List Open → ℕ → ℕ → List Value → Run (State N) (List Value)
+  after_round again outer n zero vs = after_turn again outer n vs
+  after_round again outer n (suc zero) vs = ret vs
+  after_round again outer n (suc (suc k)) vs = stop Stuck
 
-  -- the run of the function at node f on its arguments
-  unfoldable pub run_function : Firing
-  run_function f values = run_op (op_at g f) f values
+  -- from block n to where its control link leads
+  abbrev pub jump : Enter N → Enter N → Op → List Open → (n to : ℕ) → List Value → Run (State N) (List Value)
+  jump inside again (op.ExitBlock types) outer n to vs = ret vs
+  jump inside again _ outer n to vs = if ltb n to then inside outer to vs else after_turn again outer to vs
+
+  -- a node that is run
+  unfoldable pub enter_op : Enter N → Enter N → Op → Enter N
+  enter_op inside again (op.FuncDefn name ins outs) outer n vs = region (fire inside again) outer n vs
+  enter_op inside again (op.Dfg ins outs) outer n vs = region (fire inside again) outer n vs
+  enter_op inside again (op.Case ins outs) outer n vs = region (fire inside again) outer n vs
+  enter_op inside again (op.Conditional rows ins outs) outer n vs =
+      with_variant vs (λ k us. at_node (slice_get (children g n) k) (λ c. inside outer c us))
+  enter_op inside again (op.TailLoop a l r) outer n vs =
+      region (fire inside again) outer n vs >>= (λ us. with_variant us (after_round again outer n))
+  enter_op inside again (op.Cfg ins outs) outer n vs = at_node (slice_get (children g n) 0) (λ block. inside outer block vs)
+  enter_op inside again (op.DataflowBlock ins rows others) outer n vs =
+      region (fire inside again) outer n vs
+      >>= (λ us. with_variant us (λ k xs.
+      at_port (taker g.links (record { node = n; index = k })) (λ to. jump inside again (op_at g to) outer n to xs)))
+  enter_op inside again _ outer n vs = stop Stuck
+
+  -- A node is run at most `depth` nodes deep. A run goes from a node to one with a greater number, or takes a turn.
+  abbrev pub level : Enter N → (depth : ℕ) → Enter N
+  level again zero outer n vs = stop Stuck
+  level again (suc depth) outer n vs = enter_op (level again depth) again (op_at g n) outer n vs
+
+  -- a node is run with fewer than `turns` turns left
+  abbrev pub resume : (turns : ℕ) → Enter N
+  resume zero outer n vs = stop Stuck
+  resume (suc turns) outer n vs = level (resume turns) (length g.nodes) outer n vs
+
+  -- a node is run in the present state
+  unfoldable pub runs : Enter N
+  runs outer n vs s = resume (suc s.world.turns) outer n vs s
+
+-- ---- whole runs
+
+abbrev pub world_out : {N A : Type 0} → Out (State N) A → Out World A
+world_out (Returned a s) = Returned a s.world
+world_out (Stopped e s) = Stopped e s.world
+
+-- the run of the function at node f on its arguments, with nothing written down
+unfoldable pub run_function : Graph → ℕ → List Value → Run (State (Unit {0})) (List Value)
+run_function g f arguments = runs no_note g [] f arguments
+
+-- The run of the function at node f, from a world, under a list of picks: the values that it returns, or how it
+-- stops, and the world after it.
+unfoldable pub graph_run : Graph → ℕ → List Value → World → List ℕ → Out World (List Value)
+graph_run g f arguments w picks = world_out (run_function g f arguments (record { world = w; picks = picks; notes = tt }))

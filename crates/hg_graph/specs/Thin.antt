@@ -6,7 +6,7 @@ use Rattle.gp_base.specs.declared.event.Event.{Event}
 use Rattle.gp_base.specs.declared.event.Event.TheVariants as event
 use Rattle.gp_base.specs.Run.{Returned}
 use Rattle.gp_base.specs.World.{World, next}
-use Rattle.hg_graph.specs.Op as op
+use Rattle.hg_ops.specs.Op as op
 use Rattle.hg_graph.specs.Graph.{Node, Link, Ports, Order, Graph}
 use Rattle.hg_graph.specs.Rules.{InputsLinkedOnce, LinearOutputsLinkedOnce}
 use Rattle.hg_graph.specs.Run.{run_function}
@@ -17,8 +17,8 @@ pub data ThinGate : Type 0 where
   X : ThinGate
 
 abbrev pub gate_op : ThinGate → op.Op
-gate_op H = op.H
-gate_op X = op.X
+gate_op H = op.Ext (op.Gate1 op.H)
+gate_op X = op.Ext (op.Gate1 op.X)
 
 abbrev pub gate_name : ThinGate → GateName
 gate_name H = name.H
@@ -36,12 +36,12 @@ chain n (suc count) =
 
 -- the children of `main` from node 4 on: the qubit is allocated, the gates follow, and the last node frees it
 abbrev pub thin_ops : List ThinGate → List op.Op
-thin_ops gates = op.Alloc ∷ (map gate_op gates ++ op.Free ∷ [])
+thin_ops gates = op.Ext op.Alloc ∷ (map gate_op gates ++ op.Ext op.Free ∷ [])
 
 -- the thin graph of these gates
 unfoldable pub thin_graph : List ThinGate → Graph
 thin_graph gates = record {
-  nodes = record { op = op.Module; parent = 0 } ∷ record { op = op.FuncDefn (codes "main"); parent = 0 } ∷ in_main op.Input ∷ in_main op.Output ∷ map in_main (thin_ops gates);
+  nodes = record { op = op.Module; parent = 0 } ∷ record { op = op.FuncDefn (codes "main") [] []; parent = 0 } ∷ in_main (op.Input []) ∷ in_main (op.Output []) ∷ map in_main (thin_ops gates);
   links = chain 4 (suc (length gates));
 }
 
@@ -49,7 +49,7 @@ thin_graph gates = record {
 abbrev pub thin_events : ℕ → List ThinGate → List Event
 thin_events q gates = event.Alloc q ∷ (map (λ gate. event.Gate1 (gate_name gate) q) gates ++ event.Free q ∷ [])
 
--- the world after its run: the next qubit has lived
+-- the world after its run: the next qubit has lived, and no turn and no outcome was taken
 abbrev pub thin_after : List ThinGate → World → World
 thin_after gates w = record w { flags = w.flags ++ false ∷ []; events = w.events ++ thin_events (next w) gates }
 
@@ -58,8 +58,8 @@ thin_after gates w = record w { flags = w.flags ++ false ∷ []; events = w.even
 abbrev pub ThinGraphsRun : Type 0
 ThinGraphsRun =
     (gates : List ThinGate) (w : World) (picks : List ℕ)
-    → run_function (thin_graph gates) 1 [] (record { world = w; picks = picks })
-    ≡ Returned [] (record { world = thin_after gates w; picks = drop (length gates + 2) picks })
+    → run_function (thin_graph gates) 1 [] (record { world = w; picks = picks; notes = tt })
+    ≡ Returned [] (record { world = thin_after gates w; picks = drop (length gates + 2) picks; notes = tt })
 
 -- in a thin graph each value input port and each linear value output port has exactly one link
 abbrev pub ThinGraphsAreLinked : Type 0

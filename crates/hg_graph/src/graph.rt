@@ -4,8 +4,8 @@
 mod tests;
 
 use crate::link::{Link, NodeId, Port};
-use crate::op::OpKind;
 use gp_base::Sequence;
+use hg_ops::OpKind;
 use std::alloc::{AllocError, Global};
 use std::marker::Model;
 
@@ -34,6 +34,11 @@ impl Model for Graph {
 
     ghost Value = { spec.Graph };
 
+    ghost use Rattle.std.specs.Coded.{codes};
+    ghost use Rattle.hg_ops.specs.TypeCode.{coded_type};
+
+    ghost coded = { Prim.hlevel (codes, coded_type) };
+
     ghost use Rattle.hg_graph.specs.NodeView.{graph_view};
 
     ghost view = { graph_view };
@@ -42,10 +47,11 @@ impl Model for Graph {
 impl Graph {
     ghost use Rattle.std.specs.Prelude.{◌≡◌, ◌<◌, ◌==◌, ◌&&◌, not, [], ◌∷◌, ◌++◌, length, slice_get, map, All, IfOk, OnOk, OnErr};
     ghost use Rattle.std.specs.Option.{option_map};
-    ghost use Rattle.hg_graph.specs.Op as op;
+    ghost use Rattle.hg_ops.specs.Op as op;
+    ghost use Rattle.hg_ops.specs.OpView.{op_view};
     ghost use Rattle.hg_graph.specs.Graph.{Ports, Order, op_at, parent_at, children, feeder};
     ghost use Rattle.hg_graph.specs.NodeView.{node_view};
-    ghost use Rattle.hg_graph.specs.View.{op_view, number_of, port_view, link_view};
+    ghost use Rattle.hg_graph.specs.View.{number_of, port_view, link_view};
 
     /// The `Module` alone, as its own parent.
     pub fn new(alloc: Global) -> Result<Graph, AllocError>

@@ -6,9 +6,7 @@
 pub mod graph;
 pub mod laws;
 pub mod link;
-pub mod op;
 
 pub use graph::{Graph, Node, Nodes};
 pub use laws::{thin_graphs_are_linked, thin_graphs_run};
 pub use link::{Link, NodeId, Port};
-pub use op::OpKind;

@@ -3,7 +3,7 @@ use Rattle.std.proofs.Common.{◌≡◌, ◌≢◌, ◌⊎◌, inl, inr, ⊎_eli
 use Rattle.std.proofs.lemmas.Bool.Decides.{eqb_tells}
 use Rattle.std.specs.List.{cons_option}
 use Rattle.std.specs.Prelude.{slice_get}
-use Rattle.hg_laws.specs.Graph.{In, numbers}
+use Rattle.hg_graph.specs.Graph.{In, numbers}
 
 -- each element once
 abbrev pub Distinct : {A : Type 0} → List A → Type 0

@@ -4,9 +4,9 @@ use Rattle.std.specs.Prelude.{slice_get}
 use Rattle.std.proofs.lemmas.Bool.Decides.{eqb_tells}
 use Rattle.std.proofs.lemmas.Bool.{eqb-true, eq-eqb}
 use Rattle.hg_ops.specs.Op.{ins_of}
-use Rattle.hg_laws.specs.Graph.{Graph, In, op_at, firing_children}
-use Rattle.hg_laws.specs.Run.{Look, has_fired, value_at, cons_both, inputs, orders_kept, Ready, with_inputs, candidate, ready}
-use Rattle.hg_laws.specs.Value.{Value}
+use Rattle.hg_graph.specs.Graph.{Graph, In, op_at, firing_children}
+use Rattle.hg_graph.specs.Run.{Look, has_fired, value_at, cons_both, inputs, orders_kept, Ready, with_inputs, candidate, ready}
+use Rattle.hg_graph.specs.Value.{Value}
 use Rattle.hg_laws.proofs.Lists.{In-filter_map, In-filter_map_back}
 use Rattle.hg_laws.proofs.Wires.{Wire, Pair, value_links, order_links, wire_into, wires_into, along, gathered, orders_done, inputs_are, orders_are}
 

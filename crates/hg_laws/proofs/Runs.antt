@@ -2,7 +2,7 @@
 use Rattle.std.proofs.Common.{◌≡◌, ℕ, zero, suc, List, [], ◌∷◌, refl, sym, ap, ◌∙◌, subst}
 use Rattle.gp_base.specs.Run.{Run, Out, Returned, Stopped, Stop, Stuck, go_on, ◌>>=◌, ret, stop}
 use Rattle.gp_base.specs.World.{World, take_turn, turn_of}
-use Rattle.hg_laws.specs.Run.{State, with_world, on_world, world_out}
+use Rattle.hg_graph.specs.Run.{State, with_world, on_world, world_out}
 
 -- what is returned has the property
 abbrev pub Giving : {S A : Type 0} → (A → Type 0) → Out S A → Type 0

@@ -9,8 +9,8 @@ use Rattle.gp_base.specs.World.{World, start}
 use Rattle.hg_ops.specs.GraphType.{GraphType, Qubit, sum_type}
 use Rattle.hg_ops.specs.Op as op
 use Rattle.hg_ops.specs.Op.{Op, Types}
-use Rattle.hg_laws.specs.Graph.{Node, Link, Ports, Order, Graph, op_at, parent_at, children, firing_children}
-use Rattle.hg_laws.specs.Run.{inputs, candidate, ready, perform_extension, perform, fire_op, firings, region, enter_op, runs, run_function, graph_run}
+use Rattle.hg_graph.specs.Graph.{Node, Link, Ports, Order, Graph, op_at, parent_at, children, firing_children}
+use Rattle.hg_graph.specs.Run.{inputs, candidate, ready, perform_extension, perform, fire_op, firings, region, enter_op, runs, run_function, graph_run}
 
 abbrev node : Op → ℕ → Node
 node kind parent = record { op = kind; parent = parent }

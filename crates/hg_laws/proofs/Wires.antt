@@ -5,10 +5,10 @@ use Rattle.std.specs.List.{cons_option}
 use Rattle.std.proofs.lemmas.Bool.{ltb-true, lt-ltb, eqb-true, eq-eqb}
 use Rattle.std.proofs.lemmas.Bool.Decides.{eqb_tells}
 use Rattle.hg_ops.specs.Op.{ins_of, outs_of}
-use Rattle.hg_laws.specs.Graph.{Graph, Port, Link, Ports, Order, In, op_at, is_port, feeder, taker, links_into, links_from}
-use Rattle.hg_laws.specs.Run.{Look, has_fired, value_at, value_of, cons_both, pulled, inputs, orders_kept}
-use Rattle.hg_laws.specs.Valid.{Edge, along_value, along_order}
-use Rattle.hg_laws.specs.Value.{Value}
+use Rattle.hg_graph.specs.Graph.{Graph, Port, Link, Ports, Order, In, op_at, is_port, feeder, taker, links_into, links_from}
+use Rattle.hg_graph.specs.Run.{Look, has_fired, value_at, value_of, cons_both, pulled, inputs, orders_kept}
+use Rattle.hg_graph.specs.Valid.{Edge, along_value, along_order}
+use Rattle.hg_graph.specs.Value.{Value}
 use Rattle.hg_laws.proofs.Lists.{In-filter_map, In-filter_map_back}
 
 pub record Wire : Type 0 where

@@ -5,12 +5,12 @@ use Rattle.gp_base.specs.Run.{Run, Returned, ◌>>=◌}
 use Rattle.gp_base.specs.World.{World, start, is_live}
 use Rattle.hg_ops.specs.GraphType.{GraphType, is_linear}
 use Rattle.hg_ops.specs.Op.{Types, FuncDefn, is_dataflow_container}
-use Rattle.hg_laws.specs.Graph.{Graph, In, op_at}
-use Rattle.hg_laws.specs.Moments.{Moment, HasOnePlace, EachMoment, IsProper, ReturnsItsQubits, EndsWell, IsPartway, noted_run, notes_of}
-use Rattle.hg_laws.specs.Ordered.{IsOrdered}
-use Rattle.hg_laws.specs.Run.{Fired, Open, outs_at, Ready, ready, State, Note, no_note, fire, firings, enter_op, level, resume, runs, world_out, graph_run}
-use Rattle.hg_laws.specs.Valid.{IsValid, HasBoundary}
-use Rattle.hg_laws.specs.Value.{Value}
+use Rattle.hg_graph.specs.Graph.{Graph, In, op_at}
+use Rattle.hg_graph.specs.Moments.{Moment, HasOnePlace, EachMoment, IsProper, ReturnsItsQubits, EndsWell, IsPartway, noted_run, notes_of}
+use Rattle.hg_graph.specs.Ordered.{IsOrdered}
+use Rattle.hg_graph.specs.Run.{Fired, Open, outs_at, Ready, ready, State, Note, no_note, fire, firings, enter_op, level, resume, runs, world_out, graph_run}
+use Rattle.hg_graph.specs.Valid.{IsValid, HasBoundary}
+use Rattle.hg_graph.specs.Value.{Value}
 
 -- In a valid graph, whoever wrote it, under any picks and from proper arguments, each qubit has one place at each moment.
 abbrev pub ValidGraphsKeepPlaces : Type 0

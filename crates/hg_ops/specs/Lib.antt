@@ -1,2 +1,10 @@
+pub mod Gates
 pub mod GraphType
+pub mod Names
 pub mod Op
+pub mod OpView
+pub mod PlainType
+pub mod TypeCode
+pub mod TypeFalls
+pub mod TypeSize
+pub mod TypeView

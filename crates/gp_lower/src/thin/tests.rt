@@ -10,13 +10,14 @@ use std::test::Fail;
 fn word_of(op: &OpKind) -> &str {
     match op {
         OpKind::Module => "module",
-        OpKind::FuncDefn { name } => name.as_str(),
-        OpKind::Input => "input",
-        OpKind::Output => "output",
+        OpKind::FuncDefn { name, .. } => name.as_str(),
+        OpKind::Input { .. } => "input",
+        OpKind::Output { .. } => "output",
         OpKind::Alloc => "alloc",
         OpKind::H => "h",
         OpKind::X => "x",
         OpKind::Free => "free",
+        _ => "another",
     }
 }
 

@@ -4,6 +4,7 @@ ghost use Rattle.std.specs.Prelude.{◌≡◌, length, IfOk};
 
 use super::*;
 use gp_base::Name;
+use hg_ops::Row;
 use std::test::Fail;
 
 const ALLOC: NodeId = NodeId(4);
@@ -26,9 +27,26 @@ fn qubit_graph(alloc: Global) -> Result<Graph, AllocError>
 {
     let mut graph = Graph::new(alloc)?;
     let name = Name::new(alloc, "main")?;
-    let main = graph.add_node(OpKind::FuncDefn { name }, NodeId(0))?;
-    graph.add_node(OpKind::Input, main)?;
-    graph.add_node(OpKind::Output, main)?;
+    let main = graph.add_node(
+        OpKind::FuncDefn {
+            name,
+            ins: Row::new(alloc),
+            outs: Row::new(alloc),
+        },
+        NodeId(0),
+    )?;
+    graph.add_node(
+        OpKind::Input {
+            types: Row::new(alloc),
+        },
+        main,
+    )?;
+    graph.add_node(
+        OpKind::Output {
+            types: Row::new(alloc),
+        },
+        main,
+    )?;
     let source = graph.add_node(OpKind::Alloc, main)?;
     let target = graph.add_node(OpKind::Free, main)?;
     graph.link(
@@ -51,10 +69,10 @@ fn reads_nodes(rt: HostRuntime) -> Result<(), Fail> {
     assert_eq!(rt; graph.node_count(), 6);
     assert!(rt; matches!(graph.op(NodeId(0)), OpKind::Module));
     assert!(rt;
-        matches!(graph.op(NodeId(1)), OpKind::FuncDefn { name } if name.as_str() == "main")
+        matches!(graph.op(NodeId(1)), OpKind::FuncDefn { name, .. } if name.as_str() == "main")
     );
-    assert!(rt; matches!(graph.op(NodeId(2)), OpKind::Input));
-    assert!(rt; matches!(graph.op(NodeId(3)), OpKind::Output));
+    assert!(rt; matches!(graph.op(NodeId(2)), OpKind::Input { .. }));
+    assert!(rt; matches!(graph.op(NodeId(3)), OpKind::Output { .. }));
     assert!(rt; matches!(graph.op(ALLOC), OpKind::Alloc));
     assert!(rt; matches!(graph.op(FREE), OpKind::Free));
     for (node, parent) in [(0, 0), (1, 0), (2, 1), (3, 1), (4, 1), (5, 1)] {

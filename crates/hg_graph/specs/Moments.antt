@@ -1,14 +1,13 @@
 -- Moments of a run, and what holds at each of them.
 use Rattle.std.specs.Prelude.{◌≡◌, ℕ, suc, ◌+◌, ◌<◌, ◌≤◌, leb, ltb, Bool, true, false, not, ◌&&◌, ◌||◌, ◌==◌, if◌then◌else◌, List, [], ◌∷◌, length, filter, Option, Some, None, ◌⊎◌}
-use Rattle.gp_base.specs.Clean.{IsCleanBetween}
-use Rattle.gp_base.specs.Run.{Run, Out, Returned, Stopped, Stop, TurnsUsed, OutcomesUsed, DivisionByZero, Stuck}
+use Rattle.gp_base.specs.Run.{Out, Returned, Stopped, TurnsUsed, OutcomesUsed, DivisionByZero, Stuck}
 use Rattle.gp_base.specs.World.{World, is_live, next}
 use Rattle.hg_ops.specs.GraphType.{GraphType, is_linear}
 use Rattle.hg_ops.specs.Op.{Types, FuncDefn, outs_of}
-use Rattle.hg_laws.specs.Graph.{Graph, Link, Port, In, op_at, firing_children, taker}
-use Rattle.hg_laws.specs.Run.{Fired, Open, Look, outs_at, has_fired, Note, State, runs}
-use Rattle.hg_laws.specs.Valid.{Edge}
-use Rattle.hg_laws.specs.Value.{Value, HaveTypes, functions, uses, uses_all}
+use Rattle.hg_graph.specs.Graph.{Graph, Link, Port, In, op_at, firing_children, taker}
+use Rattle.hg_graph.specs.Run.{Fired, Open, Look, outs_at, has_fired, Note, State, runs}
+use Rattle.hg_graph.specs.Valid.{Edge}
+use Rattle.hg_graph.specs.Value.{Value, HaveTypes, functions, uses, uses_all}
 
 -- a moment: the regions that are open, innermost first, and the world
 pub record Moment : Type 0 where

@@ -1,10 +1,10 @@
 -- Values at ports, their types, and the qubits in them.
-use Rattle.std.specs.Prelude.{◌≡◌, ℕ, zero, suc, ◌+◌, ℤ, Bool, true, false, ◌==◌, if◌then◌else◌, List, [], ◌∷◌, Option, Some, None}
+use Rattle.std.specs.Prelude.{ℕ, zero, suc, ◌+◌, ℤ, Bool, true, false, ◌==◌, if◌then◌else◌, List, [], ◌∷◌, Option, Some, None}
 use Rattle.std.specs.Str.{bytes_eq}
 use Rattle.hg_ops.specs.GraphType as type
 use Rattle.hg_ops.specs.GraphType.{GraphType, Row, Rows, no_types, next, no_rows, next_row}
 use Rattle.hg_ops.specs.Op.{Op, Types, FuncDefn}
-use Rattle.hg_laws.specs.Graph.{Node, Graph}
+use Rattle.hg_graph.specs.Graph.{Node, Graph}
 
 mutual
   -- A whole number, a qubit by its number, or a variant of a Sum: the number of its row, with the row's values.

@@ -1,8 +1,8 @@
 -- Ordered graphs.
 use Rattle.std.specs.Prelude.{◌≡◌, ◌≢◌, ◌⊎◌, ℕ, true}
 use Rattle.hg_ops.specs.Op.{is_dataflow_container, is_effect}
-use Rattle.hg_laws.specs.Graph.{Graph, In, op_at, children, firing_children}
-use Rattle.hg_laws.specs.Valid.{Path}
+use Rattle.hg_graph.specs.Graph.{Graph, In, op_at, children, firing_children}
+use Rattle.hg_graph.specs.Valid.{Path}
 
 -- an effect node: one with an effect op, or with an effect op somewhere inside it
 pub data HasEffect (g : Graph) : ℕ → Type 0 where

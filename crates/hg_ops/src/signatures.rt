@@ -1,0 +1,139 @@
+//! The types at the value ports of ops.
+
+ghost use Rattle.std.specs.Prelude.{◌≡◌, [], ◌∷◌, ◌++◌, map, slice_index_or, IfOk};
+ghost use Rattle.hg_ops.specs.GraphType.{sum_type, tuple_type};
+ghost use Rattle.hg_ops.specs.Op as spec;
+ghost use Rattle.hg_ops.specs.OpView.{op_view};
+ghost use Rattle.hg_ops.specs.PlainType.{plain_type};
+ghost use Rattle.hg_ops.specs.TypeView.{type_view};
+
+use crate::gate::Gate;
+use crate::graph_type::{GraphType, Row, Rows};
+use crate::op_kind::OpKind;
+use crate::tables::{ext_ops, gates};
+use std::alloc::{AllocError, Global};
+
+// A type without parts, or that of truth values.
+#[derive(Clone, Copy)]
+enum Plain {
+    Int,
+    Qubit,
+    Bool,
+}
+
+macro_rules! rows_of {
+    (
+        [$alloc:ident $op:ident]
+        [$($ext:ident $name:literal $effect:literal [$($in:ident)*] [$($out:ident)*];)*]
+        [$($own:ident $own_name:literal $own_effect:literal;)*]
+        [$($gate:ident $text:literal $qubits:literal $angles:literal,)*]
+    ) => {
+        match $op {
+            OpKind::Module
+            | OpKind::FuncDefn { .. }
+            | OpKind::Const { .. }
+            | OpKind::DataflowBlock { .. }
+            | OpKind::ExitBlock { .. }
+            | OpKind::Case { .. } => Ok((Row::new($alloc), Row::new($alloc))),
+            OpKind::Input { types } => Ok((Row::new($alloc), types.copy($alloc)?)),
+            OpKind::Output { types } => Ok((types.copy($alloc)?, Row::new($alloc))),
+            OpKind::Dfg { ins, outs } => Ok((ins.copy($alloc)?, outs.copy($alloc)?)),
+            OpKind::Cfg { ins, outs } => Ok((ins.copy($alloc)?, outs.copy($alloc)?)),
+            OpKind::Call { ins, outs } => Ok((ins.copy($alloc)?, outs.copy($alloc)?)),
+            OpKind::Conditional { rows, ins, outs } => Ok((sum_and($alloc, rows, ins)?, outs.copy($alloc)?)),
+            OpKind::TailLoop { again, leave, rest } => Ok((joined($alloc, again, rest)?, joined($alloc, leave, rest)?)),
+            OpKind::Tag { rows, tag } => Ok((row_at($alloc, rows, *tag)?, sum_row($alloc, rows.copy($alloc)?)?)),
+            OpKind::LoadConstant => plain_rows($alloc, &[], &[Plain::Int]),
+            OpKind::Unpack { types } => Ok((tuple_row($alloc, types)?, types.copy($alloc)?)),
+            $(OpKind::$ext { .. } => plain_rows($alloc, &[$(Plain::$in),*], &[$(Plain::$out),*]),)*
+            $(OpKind::$gate => Gate::<$qubits, $angles>::signature($alloc),)*
+        }
+    };
+}
+
+/// The types at an op's value inputs and at its value outputs, in the order of the ports.
+pub fn signature(alloc: Global, op: &OpKind) -> Result<(Row, Row), AllocError>
+    ensures ins { IfOk result (λ rows. rows.0 ≡ spec.ins_of (op_view op.now)) }
+    ensures outs { IfOk result (λ rows. rows.1 ≡ spec.outs_of (op_view op.now)) }
+{
+    ext_ops!(rows_of, alloc op)
+}
+
+// Rows of types that have no rows to copy.
+fn plain_rows(alloc: Global, ins: &[Plain], outs: &[Plain]) -> Result<(Row, Row), AllocError>
+    ensures ins { IfOk result (λ rows. rows.0 ≡ map plain_type ins.now) }
+    ensures outs { IfOk result (λ rows. rows.1 ≡ map plain_type outs.now) }
+{
+    Ok((plain_row(alloc, ins)?, plain_row(alloc, outs)?))
+}
+
+fn plain_row(alloc: Global, types: &[Plain]) -> Result<Row, AllocError>
+    ensures { IfOk result (λ row. row ≡ map plain_type types.now) }
+{
+    let mut row = Row::new(alloc);
+    for ty in types {
+        row.push(type_of(alloc, *ty)?)?;
+    }
+    Ok(row)
+}
+
+fn type_of(alloc: Global, ty: Plain) -> Result<GraphType, AllocError>
+    ensures { IfOk result (λ made. type_view made ≡ plain_type ty) }
+{
+    match ty {
+        Plain::Int => Ok(GraphType::Int),
+        Plain::Qubit => Ok(GraphType::Qubit),
+        Plain::Bool => {
+            let mut rows = Rows::new(alloc);
+            rows.push(Row::new(alloc))?;
+            rows.push(Row::new(alloc))?;
+            Ok(GraphType::Sum(rows))
+        }
+    }
+}
+
+// The row of a Sum alone.
+fn sum_row(alloc: Global, rows: Rows) -> Result<Row, AllocError>
+    ensures { IfOk result (λ row. row ≡ sum_type rows ∷ []) }
+{
+    let mut row = Row::new(alloc);
+    row.push(GraphType::Sum(rows))?;
+    Ok(row)
+}
+
+// The row of the Sum of one row alone.
+fn tuple_row(alloc: Global, types: &Row) -> Result<Row, AllocError>
+    ensures { IfOk result (λ row. row ≡ tuple_type types.now ∷ []) }
+{
+    let mut rows = Rows::new(alloc);
+    rows.push(types.copy(alloc)?)?;
+    sum_row(alloc, rows)
+}
+
+// A Sum, and then the types of a row.
+fn sum_and(alloc: Global, rows: &Rows, types: &Row) -> Result<Row, AllocError>
+    ensures { IfOk result (λ row. row ≡ sum_type rows.now ∷ types.now) }
+{
+    let mut row = sum_row(alloc, rows.copy(alloc)?)?;
+    row.append_copy(alloc, types)?;
+    Ok(row)
+}
+
+// The types of a row and then those of another.
+fn joined(alloc: Global, front: &Row, back: &Row) -> Result<Row, AllocError>
+    ensures { IfOk result (λ row. row ≡ front.now ++ back.now) }
+{
+    let mut row = front.copy(alloc)?;
+    row.append_copy(alloc, back)?;
+    Ok(row)
+}
+
+// The row at place `k`, or one without types where there is none.
+fn row_at(alloc: Global, rows: &Rows, k: u64) -> Result<Row, AllocError>
+    ensures { IfOk result (λ row. row ≡ slice_index_or rows.now k []) }
+{
+    match rows.get(k) {
+        Some(row) => row.copy(alloc),
+        None => Ok(Row::new(alloc)),
+    }
+}

@@ -5,9 +5,9 @@ use Rattle.gp_base.specs.Run.{Run, Out, Returned, Stopped, Stuck, ◌>>=◌, ret
 use Rattle.gp_base.specs.World.{World, take_turn}
 use Rattle.hg_ops.specs.GraphType.{sum_type}
 use Rattle.hg_ops.specs.Op.{Op, Types, FuncDefn, Const, Dfg, Cfg, Conditional, TailLoop, Call, LoadConstant, ins_of}
-use Rattle.hg_laws.specs.Graph.{Graph, Port, op_at, feeder, static_input}
-use Rattle.hg_laws.specs.Run.{Open, perform, State, no_note, on_world, Enter, at_node, at_port, with_variant, constant, after_turn, fire_op, world_out}
-use Rattle.hg_laws.specs.Value.{Value, Int, Qubit, Variant, values, Functions, HaveTypes, functions}
+use Rattle.hg_graph.specs.Graph.{Graph, Port, op_at, feeder, static_input}
+use Rattle.hg_graph.specs.Run.{Open, perform, State, no_note, on_world, Enter, at_node, at_port, with_variant, constant, after_turn, fire_op, world_out}
+use Rattle.hg_graph.specs.Value.{Value, Int, Qubit, Variant, values, Functions, HaveTypes, functions}
 use Rattle.hg_laws.proofs.Runs.{Gives, Giving, no_types, Shows, bind_shows, on_world_shows}
 use Rattle.hg_laws.proofs.Values.{have-append, variant_row}
 use Rattle.hg_laws.proofs.Known.{Known}

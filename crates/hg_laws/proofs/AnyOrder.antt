@@ -6,12 +6,12 @@ use Rattle.gp_base.specs.Run.{Returned, ◌>>=◌, ret, stop}
 use Rattle.gp_base.specs.World.{World}
 use Rattle.hg_ops.specs.GraphType.{sum_type}
 use Rattle.hg_ops.specs.Op.{Op, Types, FuncDefn, Dfg, Cfg, DataflowBlock, ExitBlock, Conditional, Case, TailLoop, ins_of, outs_of, is_dataflow_container, is_effect, inner_ins, inner_outs}
-use Rattle.hg_laws.specs.Graph.{Graph, op_at, children, firing_children, taker}
-use Rattle.hg_laws.specs.Moments.{IsProper}
-use Rattle.hg_laws.specs.Ordered.{IsOrdered}
-use Rattle.hg_laws.specs.Run.{Open, outs_at, no_note, Enter, at_node, with_variant, after_turn, fire, firings, region, after_round, jump, enter_op, level, resume, runs, run_function, graph_run}
-use Rattle.hg_laws.specs.Valid.{is_block, block_ins}
-use Rattle.hg_laws.specs.Value.{Value, Int, Qubit, Variant, values, HaveTypes, functions}
+use Rattle.hg_graph.specs.Graph.{Graph, op_at, children, firing_children, taker}
+use Rattle.hg_graph.specs.Moments.{IsProper}
+use Rattle.hg_graph.specs.Ordered.{IsOrdered}
+use Rattle.hg_graph.specs.Run.{Open, outs_at, no_note, Enter, at_node, with_variant, after_turn, fire, firings, region, after_round, jump, enter_op, level, resume, runs, run_function, graph_run}
+use Rattle.hg_graph.specs.Valid.{is_block, block_ins}
+use Rattle.hg_graph.specs.Value.{Value, Int, Qubit, Variant, values, HaveTypes, functions}
 use Rattle.hg_laws.proofs.Values.{or_false, have-append, variant_row}
 use Rattle.hg_laws.proofs.Flow.{sound_start}
 use Rattle.hg_laws.proofs.Children.{get_in, child_is, kid_is}

@@ -5,10 +5,10 @@ use Rattle.std.proofs.lemmas.Bool.Decides.{eqb_tells}
 use Rattle.std.proofs.lemmas.Bool.{eqb-true, eq-eqb}
 use Rattle.hg_ops.specs.GraphType.{GraphType, is_linear}
 use Rattle.hg_ops.specs.Op.{ins_of, outs_of}
-use Rattle.hg_laws.specs.Graph.{Graph, In, op_at, firing_children}
-use Rattle.hg_laws.specs.Moments.{has_read}
-use Rattle.hg_laws.specs.Run.{Fired, Open, Look, outs_at, has_fired, value_at, inputs, Ready}
-use Rattle.hg_laws.specs.Value.{Value, HasType, HaveTypes, functions, uses_all}
+use Rattle.hg_graph.specs.Graph.{Graph, In, op_at, firing_children}
+use Rattle.hg_graph.specs.Moments.{has_read}
+use Rattle.hg_graph.specs.Run.{Fired, Open, Look, outs_at, has_fired, value_at, inputs, Ready}
+use Rattle.hg_graph.specs.Value.{Value, HasType, HaveTypes, functions, uses_all}
 use Rattle.hg_laws.proofs.Lists.{total, total_four, total_same, total_zero, ports, ports-zero, ports-suc, ports_same, by_ports}
 use Rattle.hg_laws.proofs.Values.{has_at, have_length, copyable_uses, uses_option, uses_ports}
 use Rattle.hg_laws.proofs.Wires.{Wire, value_links, wire_into, wires_into, wires_from, along, gathered, inputs_are}

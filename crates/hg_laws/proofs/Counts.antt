@@ -11,9 +11,9 @@ use Rattle.gp_base.specs.World.{World, is_live, are_two_live, are_three_live, en
 use Rattle.hg_ops.specs.GraphType as type
 use Rattle.hg_ops.specs.Op as op
 use Rattle.hg_ops.specs.Op.{Extension, Division, extension_ins, one_qubit_name, two_qubit_name, rotation_name}
-use Rattle.hg_laws.specs.Moments.{once_if, EndsWell}
-use Rattle.hg_laws.specs.Run.{nothing, divide, divided, calculated, compared, compared_bools, if_truth, perform_extension}
-use Rattle.hg_laws.specs.Value.{Value, Int, Qubit, Variant, values, truth, Functions, HaveTypes, uses, uses_all}
+use Rattle.hg_graph.specs.Moments.{once_if, EndsWell}
+use Rattle.hg_graph.specs.Run.{nothing, divide, divided, calculated, compared, compared_bools, if_truth, perform_extension}
+use Rattle.hg_graph.specs.Value.{Value, Int, Qubit, Variant, values, truth, Functions, HaveTypes, uses, uses_all}
 use Rattle.hg_laws.proofs.Values.{uses-values}
 use Rattle.hg_laws.proofs.Forms.{qubit_form, two_qubits_form, three_qubits_form, angle_form, int_form, two_ints_form, bool_form, two_bools_form, tuple_form, truth-of}
 
@@ -123,7 +123,7 @@ module _ (rest : ℕ → ℕ) (w : World) where
     formed : (e : Extension) (vs us : List Value) → vs ≡ us → Counted rest vs w → (Counted rest us w → Keeps (perform_extension e us w)) → Keeps (perform_extension e vs w)
     formed e vs us q c h = subst (λ x. Keeps (perform_extension e x w)) (sym q) (h (subst (λ x. Counted rest x w) q c))
 
-    truth_keeps : (b : Bool) (k : Bool → List Value) → Keeps (ret (k b) w) → Keeps (if_truth (Rattle.hg_laws.specs.Value.truth_of (truth b)) (λ a. ret (k a)) w)
+    truth_keeps : (b : Bool) (k : Bool → List Value) → Keeps (ret (k b) w) → Keeps (if_truth (Rattle.hg_graph.specs.Value.truth_of (truth b)) (λ a. ret (k a)) w)
     truth_keeps b k h = subst (λ o. Keeps (if_truth o (λ a. ret (k a)) w)) (sym (truth-of b)) h
 
     pub extension_keeps : (e : Extension) (vs : List Value) → HaveTypes F vs (extension_ins e) → Counted rest vs w → Keeps (perform_extension e vs w)
@@ -156,7 +156,7 @@ module _ (rest : ℕ → ℕ) (w : World) where
     extension_keeps op.Not vs h c = let f = bool_form F vs h in
         formed op.Not vs _ f.1 c (λ d. truth_keeps f.0 (λ a. truth (not a) ∷ []) (λ q. let z = d q in omega arith))
     extension_keeps (op.CompareBools which) vs h c = let f = two_bools_form F vs h in
-        formed (op.CompareBools which) vs _ f.2 c (λ d. subst (λ o. Keeps (if_truth o (λ a. if_truth (Rattle.hg_laws.specs.Value.truth_of (truth f.1)) (λ b. ret (truth (compared_bools which a b) ∷ []))) w)) (sym (truth-of f.0)) (truth_keeps f.1 (λ b. truth (compared_bools which f.0 b) ∷ []) (λ q. let z = d q in omega arith)))
+        formed (op.CompareBools which) vs _ f.2 c (λ d. subst (λ o. Keeps (if_truth o (λ a. if_truth (Rattle.hg_graph.specs.Value.truth_of (truth f.1)) (λ b. ret (truth (compared_bools which a b) ∷ []))) w)) (sym (truth-of f.0)) (truth_keeps f.1 (λ b. truth (compared_bools which f.0 b) ∷ []) (λ q. let z = d q in omega arith)))
     extension_keeps (op.Unpack types) vs h c = let f = tuple_form F types vs h in formed (op.Unpack types) vs _ f.1 c (λ d q. let z = d q in let u = uses-values q f.0 in omega arith)
 
 -- what ends well ends so in a related world

@@ -7,8 +7,8 @@ use Rattle.hg_ops.specs.GraphType as type
 use Rattle.hg_ops.specs.GraphType.{bool_type, tuple_type}
 use Rattle.hg_ops.specs.Op as op
 use Rattle.hg_ops.specs.Op.{Types, Extension, extension_ins, is_extension_effect}
-use Rattle.hg_laws.specs.Run.{calculated, compared, compared_bools, if_truth, perform_extension}
-use Rattle.hg_laws.specs.Value.{Value, Int, Qubit, Variant, Values, no_values, value, values, truth, truth_of, Functions, HasType, HaveTypes}
+use Rattle.hg_graph.specs.Run.{calculated, compared, compared_bools, if_truth, perform_extension}
+use Rattle.hg_graph.specs.Value.{Value, Int, Qubit, Variant, Values, no_values, value, values, truth, truth_of, Functions, HasType, HaveTypes}
 use Rattle.hg_laws.proofs.Values.{no_row}
 
 module _ (F : Functions) where

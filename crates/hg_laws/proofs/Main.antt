@@ -1,7 +1,7 @@
 -- The laws of whole runs.
 use Rattle.std.proofs.Common.{◌≡◌, ℕ, suc, [], refl}
 use Rattle.hg_laws.specs.Laws.{RunsAreClean, PicksChangeNothing, BoundsSuffice, RunsUnfold, AnyReadyFirst}
-use Rattle.hg_laws.specs.Run.{no_note}
+use Rattle.hg_graph.specs.Run.{no_note}
 use Rattle.hg_laws.proofs.Flow.{partway_sound}
 use Rattle.hg_laws.proofs.Known.{known, region_of}
 use Rattle.hg_laws.proofs.AnyOrder.{any_order}

@@ -7,11 +7,11 @@ use Rattle.std.proofs.Math.Nat.{mod-lt}
 use Rattle.gp_base.specs.Run.{Run, Out, Returned, Stopped, Stuck, go_on, ◌>>=◌, ret, stop}
 use Rattle.gp_base.specs.World.{World, start}
 use Rattle.hg_ops.specs.Op.{Op, Module, FuncDefn, Const, Input, Output, Dfg, Cfg, DataflowBlock, ExitBlock, Conditional, Case, TailLoop, Tag, Call, LoadConstant, Ext, ins_of, outs_of, fires, is_dataflow_container, is_effect}
-use Rattle.hg_laws.specs.Graph.{Graph, Port, In, op_at, children, firing_children, feeder, static_input}
-use Rattle.hg_laws.specs.Ordered.{HasEffect, own, inside, IsOrdered}
-use Rattle.hg_laws.specs.Run.{Fired, Open, Look, outs_at, has_fired, inputs, Ready, ready, perform, no_note, on_world, choose, pick_from, or_stuck, at_moment, Enter, at_port, constant, fire_op, fire, firings, world_out}
-use Rattle.hg_laws.specs.Valid.{Edge, Path, edge, joined}
-use Rattle.hg_laws.specs.Value.{Value, Int, Variant, packed, HaveTypes, functions}
+use Rattle.hg_graph.specs.Graph.{Graph, Port, In, op_at, children, firing_children, feeder, static_input}
+use Rattle.hg_graph.specs.Ordered.{HasEffect, own, inside, IsOrdered}
+use Rattle.hg_graph.specs.Run.{Fired, Open, Look, outs_at, has_fired, inputs, Ready, ready, perform, no_note, on_world, choose, pick_from, or_stuck, at_moment, Enter, at_port, constant, fire_op, fire, firings, world_out}
+use Rattle.hg_graph.specs.Valid.{Edge, Path, edge, joined}
+use Rattle.hg_graph.specs.Value.{Value, Int, Variant, packed, HaveTypes, functions}
 use Rattle.hg_laws.proofs.Runs.{Giving, Gives, Shows, bind_shows}
 use Rattle.hg_laws.proofs.Values.{or_false}
 use Rattle.hg_laws.proofs.Wires.{order_links, edge_cases}
@@ -88,7 +88,7 @@ module _ (g : Graph) (V : Known g) (inside again : Enter (Unit {0})) (TI : Typed
       let r = PI.pure n vs l (ap is_plain e) d ef (subst (λ y. HaveTypes (functions g) vs (entry_ins y)) (sym e) h) in (r.0, r.2)
   pure_fire n vs LoadConstant e l d ef k f x h = let c = V.constants n l e in (Int c.1 ∷ [], const_shows (feeder g.links (static_input g n)) c.0 c.1 c.2 c.3)
   pure_fire n vs (Tag rows t) e l d ef k f x h = (Variant t (packed vs) ∷ [], λ w. refl)
-  pure_fire n vs (Ext y) e l d ef k f x h = let p = pure_extension (functions g) y vs x h in (p.0, λ w. ap (λ o. world_out (Rattle.hg_laws.specs.Run.with_world (at w []) o)) (p.1 w))
+  pure_fire n vs (Ext y) e l d ef k f x h = let p = pure_extension (functions g) y vs x h in (p.0, λ w. ap (λ o. world_out (Rattle.hg_graph.specs.Run.with_world (at w []) o)) (p.1 w))
   pure_fire n vs (TailLoop a b r) e l d ef k f x h = absurd cc
   pure_fire n vs (Cfg i o) e l d ef k f x h = absurd cc
   pure_fire n vs (Call i o) e l d ef k f x h = absurd cc

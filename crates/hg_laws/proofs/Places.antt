@@ -5,12 +5,12 @@ use Rattle.gp_base.specs.Run.{Out, Returned, Stopped, TurnsUsed, OutcomesUsed, D
 use Rattle.gp_base.specs.World.{World, start, is_live, next}
 use Rattle.hg_ops.specs.GraphType.{GraphType, is_linear}
 use Rattle.hg_ops.specs.Op.{Types, FuncDefn}
-use Rattle.hg_laws.specs.Graph.{Graph, In, op_at}
+use Rattle.hg_graph.specs.Graph.{Graph, In, op_at}
 use Rattle.hg_laws.specs.Laws.{ValidGraphsKeepPlaces, MomentsChangeNothing, ValidGraphsEndWell, ClosedRunsHoldNone}
-use Rattle.hg_laws.specs.Moments.{Moment, write_down, noted_run, is_own, once_if, HasOnePlace, EachMoment, IsProper, ReturnsItsQubits, EndsWell, notes_of, unread}
-use Rattle.hg_laws.specs.Run.{Open, State, no_note, Note, resume, runs, world_out, run_function, graph_run}
-use Rattle.hg_laws.specs.Valid.{IsValid}
-use Rattle.hg_laws.specs.Value.{Value, HaveTypes, functions, uses_all}
+use Rattle.hg_graph.specs.Moments.{Moment, write_down, noted_run, is_own, once_if, HasOnePlace, EachMoment, IsProper, ReturnsItsQubits, EndsWell, notes_of, unread}
+use Rattle.hg_graph.specs.Run.{Open, State, no_note, Note, resume, runs, world_out, run_function, graph_run}
+use Rattle.hg_graph.specs.Valid.{IsValid}
+use Rattle.hg_graph.specs.Value.{Value, HaveTypes, functions, uses_all}
 use Rattle.hg_laws.proofs.Runs.{Giving, Gives}
 use Rattle.hg_laws.proofs.Values.{no_qubits}
 use Rattle.hg_laws.proofs.Steps.{IsLater, later_step}

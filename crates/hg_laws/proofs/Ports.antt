@@ -7,10 +7,10 @@ use Rattle.std.proofs.lemmas.Option.{slice_get_past}
 use Rattle.std.proofs.lemmas.Bool.{cases_lt}
 use Rattle.hg_ops.specs.GraphType.{GraphType, is_linear}
 use Rattle.hg_ops.specs.Op.{Types, outs_of}
-use Rattle.hg_laws.specs.Graph.{Graph, Port, Link, In, op_at, op_of, taker}
-use Rattle.hg_laws.specs.Moments.{has_read, FiredOnce, IsGoodOpen, AreGoodOpen, is_read, at_ports, at_nodes, unread}
-use Rattle.hg_laws.specs.Run.{Fired, Open, Look, outs_at, has_fired, value_at}
-use Rattle.hg_laws.specs.Value.{Value, HasType, HaveTypes, functions, uses}
+use Rattle.hg_graph.specs.Graph.{Graph, Port, Link, In, op_at, op_of, taker}
+use Rattle.hg_graph.specs.Moments.{has_read, FiredOnce, IsGoodOpen, AreGoodOpen, is_read, at_ports, at_nodes, unread}
+use Rattle.hg_graph.specs.Run.{Fired, Open, Look, outs_at, has_fired, value_at}
+use Rattle.hg_graph.specs.Value.{Value, HasType, HaveTypes, functions, uses}
 use Rattle.hg_laws.proofs.Lists.{total, total_four, total_same, total_zero, ports, ports-zero, ports-suc, by_ports, get_within}
 use Rattle.hg_laws.proofs.Values.{have_length, copyable_uses, uses_option}
 use Rattle.hg_laws.proofs.Wires.{Wire, value_links, wires_from, node_after, node_of, along, at_index}

@@ -8,11 +8,11 @@ use Rattle.gp_base.specs.Run.{Run, Out, Returned, Stopped, TurnsUsed, OutcomesUs
 use Rattle.gp_base.specs.World.{World, take_turn, turn_of}
 use Rattle.hg_ops.specs.GraphType.{GraphType, sum_type}
 use Rattle.hg_ops.specs.Op.{Op, Types, Module, FuncDefn, Const, Input, Output, Dfg, Cfg, DataflowBlock, ExitBlock, Conditional, Case, TailLoop, Tag, Call, LoadConstant, Ext, ins_of, outs_of, fires, is_dataflow_container, inner_ins, inner_outs}
-use Rattle.hg_laws.specs.Graph.{Graph, Port, In, op_at, children, firing_children, feeder, taker, static_input}
-use Rattle.hg_laws.specs.Moments.{FiredOnce, IsGoodOpen, AreGoodOpen, EndsWell}
-use Rattle.hg_laws.specs.Run.{Fired, Open, outs_at, has_fired, inputs, Ready, ready, perform, State, Note, with_world, on_world, choose, pick_from, or_stuck, at_moment, Enter, at_node, at_port, with_variant, constant, after_turn, fire_op, fire, firings, region, after_round, jump, enter_op, level, resume}
-use Rattle.hg_laws.specs.Valid.{is_block, block_ins}
-use Rattle.hg_laws.specs.Value.{Value, Int, Qubit, Variant, values, packed, HaveTypes, functions, uses_all}
+use Rattle.hg_graph.specs.Graph.{Graph, Port, In, op_at, children, firing_children, feeder, taker, static_input}
+use Rattle.hg_graph.specs.Moments.{FiredOnce, IsGoodOpen, AreGoodOpen, EndsWell}
+use Rattle.hg_graph.specs.Run.{Fired, Open, outs_at, has_fired, inputs, Ready, ready, perform, State, Note, with_world, on_world, choose, pick_from, or_stuck, at_moment, Enter, at_node, at_port, with_variant, constant, after_turn, fire_op, fire, firings, region, after_round, jump, enter_op, level, resume}
+use Rattle.hg_graph.specs.Valid.{is_block, block_ins}
+use Rattle.hg_graph.specs.Value.{Value, Int, Qubit, Variant, values, packed, HaveTypes, functions, uses_all}
 use Rattle.hg_laws.proofs.Runs.{Giving, Gives, no_types}
 use Rattle.hg_laws.proofs.Values.{uses-packed, uses-values, uses-append, have-append, variant_row}
 use Rattle.hg_laws.proofs.Wires.{value_links, order_links, edge_cases}

@@ -12,8 +12,8 @@ use Rattle.gp_base.specs.Run.{Run, Out, Returned, Stopped, DivisionByZero, Stuck
 use Rattle.gp_base.specs.World.{World, next, is_live, are_two_live, are_three_live, ended, did, on_live, on_two_live, on_three_live, does, allocate, free, measure, measure_free, outcome_of, with_outcome, reset, apply_gate, apply_gate_on_two, apply_gate_on_three, rotate, take_turn, turn_of}
 use Rattle.hg_ops.specs.Op as op
 use Rattle.hg_ops.specs.Op.{Op, Extension, Division, one_qubit_name, two_qubit_name, rotation_name}
-use Rattle.hg_laws.specs.Run.{nothing, divide, divided, perform_extension, perform}
-use Rattle.hg_laws.specs.Value.{Value, Int, Qubit, Variant, truth, packed}
+use Rattle.hg_graph.specs.Run.{nothing, divide, divided, perform_extension, perform}
+use Rattle.hg_graph.specs.Value.{Value, Int, Qubit, Variant, truth, packed}
 use Rattle.hg_laws.proofs.Matches.{qubit_case, two_qubits_case, three_qubits_case, angle_case, int_case, two_ints_case, bool_case, two_bools_case, tuple_case}
 
 -- A relation of worlds that holds over every step of an op: of nothing, of two steps, of an event that leaves the flags,

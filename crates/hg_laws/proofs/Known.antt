@@ -330,7 +330,7 @@ module _ (g : Graph) (V : IsValid g) where
       let up = positive n (λ z. no_module (sym (((place 0 (V.graph).some).root refl).0) ∙ (ap (op_at g) (sym z) ∙ e))) in
       let less = ((place n l).others up).1 in
       let pl : parent_at g n < length g.nodes = omega arith in
-      let c = exit_in (op_at g (parent_at g n)) t (ap (may_stand_in (op_at g (parent_at g n))) (sym e) ∙ V.keeps Valid.Children n l up) in
+      let c = exit_in (op_at g (parent_at g n)) t (ap (may_stand_in (op_at g (parent_at g n))) (sym e) ∙ V.keeps Valid.Children n l (λ z. below n (parent_at g n) (sym z) less)) in
       let B = subst (KeepsBlocks g (parent_at g n)) c.2 (V.keeps Valid.Blocks (parent_at g n) pl) in
       let i = is_child g (parent_at g n) n l refl (λ z. below n (parent_at g n) z less) in
       let outs : t ≡ c.1 = elim (subst (In n) B.are_children i) [
@@ -354,6 +354,9 @@ module _ (g : Graph) (V : IsValid g) where
       types_are : (u : Types) → ExitBlock u ≡ ExitBlock t → t ≡ u
       types_are u h = cc
 
+  smaller : (n p : ℕ) → p ≡ n → p < n → ⊥
+  smaller n p e l = absurd (omega arith)
+
   pub known : Known g
   unfolding value_links
   known = record {
@@ -361,7 +364,7 @@ module _ (g : Graph) (V : IsValid g) where
     root_parent = is_root_parent;
     rises = λ n z l. ((place n l).others z).1;
     regions = λ c l f. V.keeps Valid.Boundaries c l f;
-    suits = λ n z l. V.keeps Valid.Children n l z;
+    suits = λ n z l. V.keeps Valid.Children n l (λ e. smaller n (parent_at g n) e ((place n l).others z).1);
     wires = joins;
     orders = joins_pair;
     fed = λ n p l h. sym (into_same g g.links n p h) ∙ V.keeps Valid.Inputs n l p h;

@@ -24,5 +24,6 @@ pub mod Safe
 pub mod Ports
 pub mod Mirrors
 pub mod Places
+pub mod Broken
 pub mod Main
 mod Samples

@@ -1,7 +1,7 @@
 //! Laws of program graphs and their runs. Each function does nothing: its contract is the law.
 #![tactic(auto)]
 
-ghost use Rattle.hg_laws.specs.Laws.{ValidGraphsKeepPlaces, MomentsChangeNothing, ValidGraphsEndWell, RunsAreClean, ClosedRunsHoldNone, PicksChangeNothing, BoundsSuffice, RunsUnfold, AnyReadyFirst};
+ghost use Rattle.hg_laws.specs.Laws.{ValidGraphsKeepPlaces, MomentsChangeNothing, ValidGraphsEndWell, RunsAreClean, ClosedRunsHoldNone, PicksChangeNothing, BoundsSuffice, RunsUnfold, AnyReadyFirst, OneIsBroken};
 
 /// In a valid graph, under any picks and from proper arguments, each moment of a run keeps these facts together: each
 /// qubit that is live and was allocated in this run or came with its arguments occurs exactly once in the values at
@@ -53,4 +53,10 @@ pub fn runs_unfold()
 /// In a valid ordered graph a region may be run by firing any ready node first.
 pub fn any_ready_first()
     ensures { AnyReadyFirst }
+{}
+
+/// Of a graph that isn't valid one rule and one node are named: the least rule that is broken, and the least node that
+/// breaks it. None is in a valid graph.
+pub fn one_is_broken()
+    ensures { OneIsBroken }
 {}

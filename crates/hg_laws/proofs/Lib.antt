@@ -25,5 +25,7 @@ pub mod Ports
 pub mod Mirrors
 pub mod Places
 pub mod Broken
+pub mod Tests
+pub mod Tested
 pub mod Main
-mod Samples
+pub mod Samples

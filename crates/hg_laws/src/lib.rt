@@ -1,6 +1,7 @@
 //! Laws of program graphs and their runs. Each function does nothing: its contract is the law.
 #![tactic(auto)]
 
+ghost use Rattle.hg_laws.specs.Samples.{NumbersAre, SamplesRun, SamplesAreValid};
 ghost use Rattle.hg_laws.specs.Laws.{ValidGraphsKeepPlaces, MomentsChangeNothing, ValidGraphsEndWell, RunsAreClean, ClosedRunsHoldNone, PicksChangeNothing, BoundsSuffice, RunsUnfold, AnyReadyFirst, OneIsBroken};
 
 /// In a valid graph, under any picks and from proper arguments, each moment of a run keeps these facts together: each
@@ -59,4 +60,19 @@ pub fn any_ready_first()
 /// breaks it. None is in a valid graph.
 pub fn one_is_broken()
     ensures { OneIsBroken }
+{}
+
+/// Whole numbers keep 64 bits with a sign, and are divided towards minus infinity.
+pub fn numbers_are()
+    ensures { NumbersAre }
+{}
+
+/// The runs of four small graphs under some turns, outcomes and picks.
+pub fn samples_run()
+    ensures { SamplesRun }
+{}
+
+/// The four graphs are valid, and all but one are ordered: so the laws speak of something.
+pub fn samples_are_valid()
+    ensures { SamplesAreValid }
 {}

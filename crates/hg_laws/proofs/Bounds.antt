@@ -11,7 +11,8 @@ use Rattle.hg_graph.specs.Graph.{Graph, Port, In, op_of, op_at, children, firing
 use Rattle.hg_graph.specs.Run.{Fired, Open, outs_at, inputs, ready, perform, State, Note, with_world, on_world, choose, pick_from, or_stuck, at_moment, Enter, at_node, at_port, with_variant, constant, after_turn, fire_op, fire, firings, region, after_round, jump, enter_op, level, resume, runs}
 use Rattle.hg_graph.specs.Value.{Value, Int, Variant}
 use Rattle.hg_laws.proofs.Runs.{Giving, Gives, then_gives, no_types}
-use Rattle.hg_laws.proofs.Steps.{Relates, perform_relates, SameTurns, turns_step}
+use Rattle.gp_base.proofs.Steps.{Relates, SameTurns, turns_step}
+use Rattle.hg_laws.proofs.Ops.{perform_relates}
 use Rattle.hg_laws.proofs.Children.{get_in, kid_is}
 use Rattle.hg_laws.proofs.Known.{Known}
 use Rattle.hg_laws.proofs.Regions.{child_greater}

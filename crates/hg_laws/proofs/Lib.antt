@@ -8,7 +8,7 @@ pub mod Known
 pub mod Flow
 pub mod Regions
 pub mod Matches
-pub mod Steps
+pub mod Ops
 pub mod Typed
 pub mod Cleanly
 pub mod Bounds

@@ -13,7 +13,7 @@ use Rattle.hg_graph.specs.Valid.{IsValid}
 use Rattle.hg_graph.specs.Value.{Value, HaveTypes, functions, uses_all}
 use Rattle.hg_laws.proofs.Runs.{Giving, Gives}
 use Rattle.hg_laws.proofs.Values.{no_qubits}
-use Rattle.hg_laws.proofs.Steps.{IsLater, later_step}
+use Rattle.gp_base.proofs.Steps.{IsLater, later_step}
 use Rattle.hg_laws.proofs.Known.{Known, known}
 use Rattle.hg_laws.proofs.Typed.{exit_of, entry_ins, resume_typed}
 use Rattle.hg_laws.proofs.Counts.{lives, at_most_once}

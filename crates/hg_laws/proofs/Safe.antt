@@ -16,7 +16,8 @@ use Rattle.hg_graph.specs.Value.{Value, Int, Qubit, Variant, values, packed, Hav
 use Rattle.hg_laws.proofs.Runs.{Giving, Gives, no_types}
 use Rattle.hg_laws.proofs.Values.{uses-packed, uses-values, uses-append, have-append, variant_row}
 use Rattle.hg_laws.proofs.Wires.{value_links, order_links, edge_cases}
-use Rattle.hg_laws.proofs.Steps.{IsLater, later_step, SameTurns, turns_step, perform_relates}
+use Rattle.gp_base.proofs.Steps.{IsLater, later_step, SameTurns, turns_step}
+use Rattle.hg_laws.proofs.Ops.{perform_relates}
 use Rattle.hg_laws.proofs.Looks.{IsReady, In-ready, not_both, orders_in}
 use Rattle.hg_laws.proofs.Flow.{IsRegion, Sound, typed_inputs, sound_plus, sound_start, some_ready, all_fed, fed_by_fired}
 use Rattle.hg_laws.proofs.Children.{get_in, child_is, kid_is}

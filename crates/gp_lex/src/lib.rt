@@ -2,6 +2,7 @@
 //! Pirtwald compiles.
 #![tactic(auto)]
 
+mod context;
 pub mod fault;
 pub mod line;
 pub mod token;

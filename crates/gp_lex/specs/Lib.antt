@@ -1,0 +1,4 @@
+pub mod Chars
+pub mod Tokens
+pub mod Pieces
+pub mod Lines

@@ -1,3 +1,6 @@
 pub mod Fronts
 pub mod Symbols
 pub mod Strings
+pub mod Classes
+pub mod Longest
+pub mod Exact

@@ -157,7 +157,7 @@ line_end_none (c ∷ d ∷ cs) h = by (eqb c 10) (eqb c 13 && eqb d 10) h
     by false true h = absurd cc
     by false false h = refl
 
-no_gap : (bs : Text) → is_gap bs ≡ false → gap_at bs ≡ None
+pub no_gap : (bs : Text) → is_gap bs ≡ false → gap_at bs ≡ None
 unfolding gap_at
 no_gap [] h = refl
 no_gap (c ∷ cs) h = by (eqb c 32) (eqb c 9) (eqb c 35) (ends_line (c ∷ cs)) refl h
@@ -183,7 +183,7 @@ gap_none (c ∷ cs) h = by (eqb c 32) (eqb c 9) (eqb c 35) h
     by false false false h = line_end_none (c ∷ cs) h
 
 -- a lexeme is no gap
-lexeme_gap : (c : ℕ) (a rest : Text) (x : Lexeme) → lexeme_of (c ∷ a) ≡ Some x → is_gap (c ∷ (a ++ rest)) ≡ false
+pub lexeme_gap : (c : ℕ) (a rest : Text) (x : Lexeme) → lexeme_of (c ∷ a) ≡ Some x → is_gap (c ∷ (a ++ rest)) ≡ false
 lexeme_gap c a rest x e = by_space (eqb c 32) refl
   where
     none : (b : ℕ) → c ≡ b → lexeme_of (b ∷ a) ≡ None → ⊥
@@ -214,7 +214,7 @@ lexeme_gap c a rest x e = by_space (eqb c 32) refl
     by_space false h = by_tab h (eqb c 9) refl
 
 -- a quote is none
-quote_gap : (q : ℕ) (cs : Text) → is_quote q ≡ true → is_gap (q ∷ cs) ≡ false
+pub quote_gap : (q : ℕ) (cs : Text) → is_quote q ≡ true → is_gap (q ∷ cs) ≡ false
 quote_gap q cs h = by (eqb q 34) refl
   where
     double : (t : Text) → is_gap (34 ∷ t) ≡ false
@@ -234,19 +234,19 @@ quote_gap q cs h = by (eqb q 34) refl
 
 -- ---- one piece
 
-at_gap : (at : Context) (bs : Text) (x : Next) → gap_at bs ≡ Some x → piece_at at bs ≡ Ok x
+pub at_gap : (at : Context) (bs : Text) (x : Next) → gap_at bs ≡ Some x → piece_at at bs ≡ Ok x
 unfolding piece_at
 at_gap at bs x h = rw h refl
 
-at_no_gap : (at : Context) (bs : Text) → gap_at bs ≡ None → piece_at at bs ≡ token_piece at bs
+pub at_no_gap : (at : Context) (bs : Text) → gap_at bs ≡ None → piece_at at bs ≡ token_piece at bs
 unfolding piece_at
 at_no_gap at bs h = rw h refl
 
-at_tab : (at : Context) (c : ℕ) (cs : Text) → is_tabbed at.margin ≡ true → token_piece at (c ∷ cs) ≡ Err (fault.TabIndent (line_no at.line))
+pub at_tab : (at : Context) (c : ℕ) (cs : Text) → is_tabbed at.margin ≡ true → token_piece at (c ∷ cs) ≡ Err (fault.TabIndent (line_no at.line))
 unfolding token_piece
 at_tab at c cs h = rw h refl
 
-at_no_tab : (at : Context) (c : ℕ) (cs : Text) → is_tabbed at.margin ≡ false → token_piece at (c ∷ cs) ≡ as_piece at c cs (lexeme_at (c ∷ cs))
+pub at_no_tab : (at : Context) (c : ℕ) (cs : Text) → is_tabbed at.margin ≡ false → token_piece at (c ∷ cs) ≡ as_piece at c cs (lexeme_at (c ∷ cs))
 unfolding token_piece
 at_no_tab at c cs h = rw h refl
 

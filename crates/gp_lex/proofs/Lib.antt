@@ -4,3 +4,4 @@ pub mod Strings
 pub mod Classes
 pub mod Longest
 pub mod Exact
+pub mod Whole

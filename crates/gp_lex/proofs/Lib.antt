@@ -5,3 +5,4 @@ pub mod Classes
 pub mod Longest
 pub mod Exact
 pub mod Whole
+pub mod Closing

@@ -2,10 +2,14 @@
 //! Pirtwald compiles.
 #![tactic(auto)]
 
+mod character;
 mod context;
 pub mod fault;
 pub mod line;
+mod quoted;
+mod symbol;
 pub mod token;
+mod value;
 
 pub use fault::LexFault;
 pub use line::{Lines, LogicalLine};

@@ -7,19 +7,21 @@ use Rattle.std.proofs.Math.Seq.{take-append_seam, drop-append_seam}
 use Rattle.gp_base.specs.declared.name.LineNo.{LineNo}
 use Rattle.gp_lex.specs.declared.fault.LexFault.{LexFault}
 use Rattle.gp_lex.specs.declared.fault.LexFault.TheVariants as fault
+use Rattle.gp_lex.specs.declared.token.Symbol.{Symbol}
 use Rattle.gp_lex.specs.declared.token.Token.{Token}
 use Rattle.gp_lex.specs.declared.context.Bracket.{Bracket}
+use Rattle.gp_lex.specs.declared.context.Context.{Context}
 use Rattle.gp_lex.specs.declared.context.PieceKind.{PieceKind}
 use Rattle.gp_lex.specs.declared.context.PieceKind.TheVariants as k
-use Rattle.gp_lex.specs.Chars.{Text, is_quote, ends_line}
-use Rattle.gp_lex.specs.Tokens.{string_at, Lexeme, lexeme_of, token_of}
+use Rattle.gp_lex.specs.Chars.{Text, continues_name, is_digit, is_quote, ends_line, run}
+use Rattle.gp_lex.specs.Tokens.{string_at, Lexeme, word, digits, quoted, sign, lexeme_of, token_of}
 use Rattle.gp_lex.specs.Pieces as g
-use Rattle.gp_lex.specs.Pieces.{Piece, Context, behind, line_no, is_tabbed, fits, splits_quotes, IsAt, comment_len, is_gap, IsPiece, Spelled, has_backslash, Unread, Faulty}
-use Rattle.gp_lex.specs.Reading.{◌>>=◌, lexeme_at, as_quoted, Next, line_end_at, gap_at, broken, fitted, as_piece, token_piece, gap_or, piece_at, at_end, front, pieces_from}
+use Rattle.gp_lex.specs.Pieces.{Piece, behind, line_no, is_tabbed, fits, splits_quotes, IsAt, comment_len, is_gap, IsPiece, Spelled, has_backslash, Unread, Faulty}
+use Rattle.gp_lex.specs.Reading.{◌>>=◌, symbol_at, lexeme_at, as_quoted, as_sign, Next, line_end_at, gap_at, fitted, read_string, read_sign, read_token, token_piece, gap_or, piece_at, at_end, front, pieces_from}
 use Rattle.gp_lex.proofs.Fronts.{yes, no, chosen}
 use Rattle.gp_lex.proofs.Symbols.{some, some_is, some_none}
 use Rattle.gp_lex.proofs.Classes.{no_space, no_tab, no_hash, no_feed, no_return, no_quotes}
-use Rattle.gp_lex.proofs.Longest.{Taken, lexeme_taken, no_lexeme, lexeme_found, at_string}
+use Rattle.gp_lex.proofs.Longest.{Begins, name, number, string, other, begins, Taken, lexeme_taken, no_lexeme, lexeme_found, at_string}
 
 -- ---- steps
 
@@ -46,6 +48,9 @@ ok_is x y e = cc
 
 abbrev bad : LexFault → Result Next LexFault
 bad d = Err d
+
+abbrev unread : LexFault → Result (Token × Text) LexFault
+unread d = Err d
 
 bad_good : {A : Type 0} (d : LexFault) (x : Next) → bad d ≡ Ok x → A
 bad_good d x e = absurd cc
@@ -246,13 +251,51 @@ pub at_tab : (at : Context) (c : ℕ) (cs : Text) → is_tabbed at.margin ≡ tr
 unfolding token_piece
 at_tab at c cs h = rw h refl
 
+-- why no lexeme stands at the front
+abbrev pub broken : LineNo → ℕ → Text → LexFault
+broken line c cs = if is_quote c then (if has_backslash c cs then fault.BadChar line else fault.Unclosed line) else fault.BadChar line
+
+abbrev pub as_piece : Context → ℕ → Text → Option (Lexeme × Text) → Result Next LexFault
+as_piece at c cs None = Err (broken (line_no at.line) c cs)
+as_piece at c cs (Some l) = token_of (line_no at.line) l.0 l.1 >>= λ x. fitted at x l.1
+
+as_is : (at : Context) (rest : Text) (r : Result Token LexFault) → ((r >>= λ (x : Token). ok (x, rest)) >>= λ (x : Token × Text). fitted at x.0 x.1) ≡ (r >>= λ (x : Token). fitted at x rest)
+as_is at rest (Ok x) = refl
+as_is at rest (Err f) = refl
+
+string_is : (at : Context) (c : ℕ) (cs : Text) (o : Option (Text × Text)) → is_quote c ≡ true
+    → (read_string (line_no at.line) c cs o >>= λ x. fitted at x.0 x.1) ≡ as_piece at c cs (as_quoted o)
+string_is at c cs None h = rw h (by (has_backslash c cs))
+  where
+    by : (b : Bool) → ((cond b (unread (fault.BadChar (line_no at.line))) (unread (fault.Unclosed (line_no at.line)))) >>= λ (x : Token × Text). fitted at x.0 x.1)
+        ≡ Err (cond b (fault.BadChar (line_no at.line)) (fault.Unclosed (line_no at.line)))
+    by true = refl
+    by false = refl
+string_is at c cs (Some x) h = as_is at x.1 (token_of (line_no at.line) (quoted x.0) x.1)
+
+sign_is : (at : Context) (c : ℕ) (cs : Text) (o : Option (Symbol × Text)) → is_quote c ≡ false
+    → (read_sign (line_no at.line) o >>= λ x. fitted at x.0 x.1) ≡ as_piece at c cs (as_sign o)
+sign_is at c cs None h = rw h refl
+sign_is at c cs (Some x) h = as_is at x.1 (token_of (line_no at.line) (sign x.0) x.1)
+
+token_is : (at : Context) (c : ℕ) (cs : Text) → Begins c → (read_token (line_no at.line) (c ∷ cs) >>= λ x. fitted at x.0 x.1) ≡ as_piece at c cs (lexeme_at (c ∷ cs))
+unfolding read_token lexeme_at
+token_is at c cs (name h) = rw h (as_is at (run continues_name (c ∷ cs)).1 (token_of (line_no at.line) (word (run continues_name (c ∷ cs)).0) (run continues_name (c ∷ cs)).1))
+token_is at c cs (number s h) = rw (s, h) (as_is at (run is_digit (c ∷ cs)).1 (token_of (line_no at.line) (digits (run is_digit (c ∷ cs)).0) (run is_digit (c ∷ cs)).1))
+token_is at c cs (string q s d) = rw (s, d, q) (string_is at c cs (string_at c cs) q)
+token_is at c cs (other o) = let s = o.starts in let d = o.digit in let q = o.quote in rw (s, d, q) (sign_is at c cs (symbol_at (c ∷ cs)) q)
+
 pub at_no_tab : (at : Context) (c : ℕ) (cs : Text) → is_tabbed at.margin ≡ false → token_piece at (c ∷ cs) ≡ as_piece at c cs (lexeme_at (c ∷ cs))
 unfolding token_piece
-at_no_tab at c cs h = rw h refl
+at_no_tab at c cs h = rw h (token_is at c cs (begins c))
 
 at_nothing : (at : Context) (x : Next) → token_piece at [] ≡ Ok x → ⊥
-unfolding token_piece
-at_nothing at x e = cc
+unfolding token_piece read_token
+at_nothing at x e = by (is_tabbed at.margin) e
+  where
+    by : (b : Bool) → cond b (bad (fault.TabIndent (line_no at.line))) (bad (fault.BadChar (line_no at.line))) ≡ Ok x → ⊥
+    by true e = cc
+    by false e = cc
 
 fitted_reads : (at : Context) (bs : Text) (l : Lexeme × Text) (x : Token) (y : Next) → is_tabbed at.margin ≡ false → Taken bs l → token_of (line_no at.line) l.0 l.1 ≡ Ok x → fitted at x l.1 ≡ Ok y → Reads at bs y
 fitted_reads at bs l x y clean taken tok e =

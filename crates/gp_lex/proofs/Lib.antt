@@ -6,3 +6,4 @@ pub mod Longest
 pub mod Exact
 pub mod Whole
 pub mod Closing
+pub mod Numbers

@@ -133,10 +133,10 @@ as_sign_is (Some y) x e = (y, refl, sym (some_is (sign y.0, y.1) x e))
 as_sign_is None x e = absurd cc
 
 -- a character that begins no name, number or string
-record Other (c : ℕ) : Type 0 where
-  starts : starts_name c ≡ false
-  digit : is_digit c ≡ false
-  quote : is_quote c ≡ false
+pub record Other (c : ℕ) : Type 0 where
+  pub starts : starts_name c ≡ false
+  pub digit : is_digit c ≡ false
+  pub quote : is_quote c ≡ false
 
 other_is : (c : ℕ) (a : Text) → Other c → lexeme_of (c ∷ a) ≡ option_map sign (symbol_of (c ∷ a))
 other_is c a o = of_other c a o.starts o.digit o.quote
@@ -164,13 +164,13 @@ sign_cut c cs x o e =
 -- ---- what is cut off
 
 -- what a front begins with, in the order of the tests
-data Begins (c : ℕ) : Type 0 where
+pub data Begins (c : ℕ) : Type 0 where
   name : starts_name c ≡ true → Begins c
   number : starts_name c ≡ false → is_digit c ≡ true → Begins c
   string : is_quote c ≡ true → starts_name c ≡ false → is_digit c ≡ false → Begins c
   other : Other c → Begins c
 
-begins : (c : ℕ) → Begins c
+pub begins : (c : ℕ) → Begins c
 begins c = by_start (starts_name c) refl
   where
     by_quote : starts_name c ≡ false → is_digit c ≡ false → (q : Bool) → is_quote c ≡ q → Begins c

@@ -8,16 +8,17 @@ use Rattle.gp_lex.specs.declared.fault.LexFault.{LexFault}
 use Rattle.gp_lex.specs.declared.fault.LexFault.TheVariants as fault
 use Rattle.gp_lex.specs.declared.token.Token.{Token}
 use Rattle.gp_lex.specs.declared.context.Bracket.{Bracket}
+use Rattle.gp_lex.specs.declared.context.Context.{Context}
 use Rattle.gp_lex.specs.declared.context.PieceKind.{PieceKind}
 use Rattle.gp_lex.specs.declared.context.PieceKind.TheVariants as k
 use Rattle.gp_lex.specs.Chars.{Text, is_quote}
 use Rattle.gp_lex.specs.Tokens.{string_at, Lexeme, lexeme_of, token_of}
 use Rattle.gp_lex.specs.Pieces as g
-use Rattle.gp_lex.specs.Pieces.{Piece, Context, behind, line_no, is_tabbed, fits, IsAt, comment_len, is_gap, IsPiece, Spelled, has_backslash, Unread, Faulty}
-use Rattle.gp_lex.specs.Reading.{◌>>=◌, lexeme_at, as_quoted, Next, line_end_at, gap_at, broken, fitted, as_piece, token_piece, piece_at, at_end, front, pieces_from}
+use Rattle.gp_lex.specs.Pieces.{Piece, behind, line_no, is_tabbed, fits, IsAt, comment_len, is_gap, IsPiece, Spelled, has_backslash, Unread, Faulty}
+use Rattle.gp_lex.specs.Reading.{◌>>=◌, lexeme_at, as_quoted, Next, line_end_at, gap_at, fitted, token_piece, piece_at, at_end, front, pieces_from}
 use Rattle.gp_lex.proofs.Symbols.{some, some_none}
 use Rattle.gp_lex.proofs.Longest.{Taken, lexeme_taken, lexeme_found, at_string}
-use Rattle.gp_lex.proofs.Exact.{bind_ok, Stops, here, later, bind_err, ok, ok_is, Reads, piece_reads, piece_unread, at_gap, at_no_gap, at_tab, at_no_tab, no_gap, lexeme_gap, quote_gap}
+use Rattle.gp_lex.proofs.Exact.{broken, as_piece, bind_ok, Stops, here, later, bind_err, ok, ok_is, Reads, piece_reads, piece_unread, at_gap, at_no_gap, at_tab, at_no_tab, no_gap, lexeme_gap, quote_gap}
 
 abbrev next : Next → Option Next
 next x = Some x

@@ -7,22 +7,18 @@ use Rattle.gp_lex.specs.declared.fault.LexFault.TheVariants as fault
 use Rattle.gp_lex.specs.declared.line.LogicalLine.{LogicalLine}
 use Rattle.gp_lex.specs.declared.token.Token.{Token}
 use Rattle.gp_lex.specs.declared.context.Bracket.{Bracket}
-use Rattle.gp_lex.specs.declared.context.Margin.{Margin}
+use Rattle.gp_lex.specs.declared.context.Context.{Context}
 use Rattle.gp_lex.specs.declared.context.PieceKind.{PieceKind}
 use Rattle.gp_lex.specs.declared.context.PieceKind.TheVariants as k
 use Rattle.gp_lex.specs.Chars.{Text, line_feeds}
-use Rattle.gp_lex.specs.Pieces.{Piece, Context, at_start, line_no, behind, Spelled, Faulty}
+use Rattle.gp_lex.specs.Pieces.{Piece, at_start, line_no, indent_of, behind, Spelled, Faulty}
 
 -- ---- logical lines
 
-abbrev pub indent_of : Option Margin → ℕ
-indent_of None = 0
-indent_of (Some m) = m.spaces
-
 -- the logical line that has begun, with one token more; a first token gives it its number and its indentation
-abbrev pub with_token : Context → Option LogicalLine → Token → LogicalLine
-with_token at None x = record { number = line_no at.line; indent = indent_of at.margin; tokens = x ∷ [] }
-with_token at (Some line) x = record line { tokens = line.tokens ++ x ∷ [] }
+abbrev pub with_token : LineNo → ℕ → Option LogicalLine → Token → LogicalLine
+with_token number indent None x = record { number = number; indent = indent; tokens = x ∷ [] }
+with_token number indent (Some line) x = record line { tokens = line.tokens ++ x ∷ [] }
 
 -- a line that has no token is none
 abbrev pub finished : Option LogicalLine → List LogicalLine
@@ -40,7 +36,7 @@ ended_by_end (b ∷ bs) begun = []
 
 -- the line that goes on behind a piece, and the lines that end with it
 abbrev pub begun_behind : Context → Option LogicalLine → PieceKind → Option LogicalLine
-begun_behind at begun (k.Token x) = Some (with_token at begun x)
+begun_behind at begun (k.Token x) = Some (with_token (line_no at.line) (indent_of at.margin) begun x)
 begun_behind at begun k.LineEnd = begun_behind_end at.brackets begun
 begun_behind at begun _ = begun
 

@@ -8,6 +8,7 @@ use Rattle.gp_lex.specs.declared.token.Symbol.TheVariants.{LeftParen, RightParen
 use Rattle.gp_lex.specs.declared.token.Token.{Token}
 use Rattle.gp_lex.specs.declared.token.Token.TheVariants as t
 use Rattle.gp_lex.specs.declared.context.Bracket.{Bracket}
+use Rattle.gp_lex.specs.declared.context.Context.{Context}
 use Rattle.gp_lex.specs.declared.context.Margin.{Margin}
 use Rattle.gp_lex.specs.declared.context.PieceKind.{PieceKind}
 use Rattle.gp_lex.specs.declared.context.PieceKind.TheVariants as k
@@ -21,12 +22,8 @@ pub record Piece : Type 0 where
 
 -- ---- what stands before a position
 
--- The physical line of the position, counted from 1; the brackets that are open there, innermost first; and,
--- where the logical line has no token yet, the blanks that stand on the physical line before the position.
-pub record Context : Type 0 where
-  pub line : ℕ
-  pub brackets : List Bracket
-  pub margin : Option Margin
+-- A `Context` is the physical line of a position, counted from 1, the brackets that are open there, innermost
+-- first, and, where the logical line has no token yet, the blanks on the physical line before the position.
 
 abbrev pub no_margin : Margin
 no_margin = record { spaces = 0; tabbed = false }
@@ -37,17 +34,31 @@ at_start = record { line = 1; brackets = []; margin = Some no_margin }
 abbrev pub line_no : ℕ → LineNo
 line_no n = record { 0 = n }
 
+-- the number of spaces before the first token of a logical line
+abbrev pub indent_of : Option Margin → ℕ
+indent_of None = 0
+indent_of (Some m) = m.spaces
+
 -- the margin behind a line end, which parts logical lines unless a bracket is open
 abbrev pub new_margin : List Bracket → Option Margin → Option Margin
 new_margin [] margin = Some no_margin
 new_margin (b ∷ bs) margin = margin
 
+-- the innermost open bracket, and the others
+abbrev pub first_bracket : List Bracket → Option Bracket
+first_bracket [] = None
+first_bracket (b ∷ bs) = Some b
+
+abbrev pub outer_brackets : List Bracket → List Bracket
+outer_brackets [] = []
+outer_brackets (b ∷ bs) = bs
+
 -- the open brackets behind a token, which closes one only where it matches
 abbrev pub brackets_behind : ℕ → Token → List Bracket → List Bracket
 brackets_behind line (t.Symbol LeftParen) open_ = record { symbol = LeftParen; line = line_no line } ∷ open_
 brackets_behind line (t.Symbol LeftBracket) open_ = record { symbol = LeftBracket; line = line_no line } ∷ open_
-brackets_behind line (t.Symbol RightParen) (b ∷ open_) = open_
-brackets_behind line (t.Symbol RightBracket) (b ∷ open_) = open_
+brackets_behind line (t.Symbol RightParen) open_ = outer_brackets open_
+brackets_behind line (t.Symbol RightBracket) open_ = outer_brackets open_
 brackets_behind line x open_ = open_
 
 -- one blank more
@@ -72,23 +83,23 @@ abbrev pub is_tabbed : Option Margin → Bool
 is_tabbed None = false
 is_tabbed (Some m) = m.tabbed
 
--- the innermost open bracket
-abbrev pub innermost : List Bracket → Option Symbol
-innermost [] = None
-innermost (b ∷ bs) = Some b.symbol
+abbrev pub is_left_paren : Symbol → Bool
+is_left_paren LeftParen = true
+is_left_paren _ = false
 
-abbrev pub is_paren : Option Symbol → Bool
-is_paren (Some LeftParen) = true
-is_paren _ = false
+abbrev pub is_left_bracket : Symbol → Bool
+is_left_bracket LeftBracket = true
+is_left_bracket _ = false
 
-abbrev pub is_bracket : Option Symbol → Bool
-is_bracket (Some LeftBracket) = true
-is_bracket _ = false
+-- whether a bracket is open, and the innermost one passes
+abbrev pub innermost_passes : (Symbol → Bool) → Option Bracket → Bool
+innermost_passes passes None = false
+innermost_passes passes (Some b) = passes b.symbol
 
 -- whether a token may stand behind these open brackets: a closing bracket matches the innermost one
 abbrev pub fits : Token → List Bracket → Bool
-fits (t.Symbol RightParen) open_ = is_paren (innermost open_)
-fits (t.Symbol RightBracket) open_ = is_bracket (innermost open_)
+fits (t.Symbol RightParen) open_ = innermost_passes is_left_paren (first_bracket open_)
+fits (t.Symbol RightBracket) open_ = innermost_passes is_left_bracket (first_bracket open_)
 fits _ open_ = true
 
 -- ---- pieces

@@ -7,11 +7,12 @@ use Rattle.gp_lex.specs.declared.line.LogicalLine.{LogicalLine}
 use Rattle.gp_lex.specs.declared.token.Symbol.{Symbol}
 use Rattle.gp_lex.specs.declared.token.Token.{Token}
 use Rattle.gp_lex.specs.declared.context.Bracket.{Bracket}
+use Rattle.gp_lex.specs.declared.context.Context.{Context}
 use Rattle.gp_lex.specs.declared.context.PieceKind.{PieceKind}
 use Rattle.gp_lex.specs.declared.context.PieceKind.TheVariants as k
 use Rattle.gp_lex.specs.Chars.{Text, starts_name, continues_name, is_digit, is_quote, run}
 use Rattle.gp_lex.specs.Tokens.{symbol_of_one, symbol_of_two, symbol_of_three, string_at, Lexeme, word, digits, quoted, sign, token_of}
-use Rattle.gp_lex.specs.Pieces.{Piece, Context, at_start, line_no, behind, is_tabbed, fits, comment_len, has_backslash}
+use Rattle.gp_lex.specs.Pieces.{Piece, at_start, line_no, behind, is_tabbed, fits, comment_len, has_backslash}
 use Rattle.gp_lex.specs.Lines.{lines_from, source}
 
 infixl 10 ◌>>=◌
@@ -88,21 +89,41 @@ gap_at (c ∷ cs) =
     else (if c == 9 then Some (k.Tab, cs)
     else (if c == 35 then Some (k.Comment, drop (comment_len cs) cs) else line_end_at (c ∷ cs)))
 
--- why no lexeme stands at the front
-abbrev pub broken : LineNo → ℕ → Text → LexFault
-broken line c cs = if is_quote c then (if has_backslash c cs then fault.BadChar line else fault.Unclosed line) else fault.BadChar line
-
 -- the token that was read, where it may stand behind the open brackets
 abbrev pub fitted : Context → Token → Text → Result Next LexFault
 fitted at x rest = if fits x at.brackets then Ok (k.Token x, rest) else Err (fault.BadChar (line_no at.line))
 
-abbrev pub as_piece : Context → ℕ → Text → Option (Lexeme × Text) → Result Next LexFault
-as_piece at c cs None = Err (broken (line_no at.line) c cs)
-as_piece at c cs (Some l) = token_of (line_no at.line) l.0 l.1 >>= λ x. fitted at x l.1
+-- the token of a lexeme, and the text behind it
+abbrev pub read_as : LineNo → Lexeme → Text → Result (Token × Text) LexFault
+read_as line l rest = token_of line l rest >>= λ x. Ok (x, rest)
+
+-- the word and the number at the front
+abbrev pub word_read : LineNo → Text → Result (Token × Text) LexFault
+word_read line cs = read_as line (word (run continues_name cs).0) (run continues_name cs).1
+
+abbrev pub number_read : LineNo → Text → Result (Token × Text) LexFault
+number_read line cs = read_as line (digits (run is_digit cs).0) (run is_digit cs).1
+
+-- the string that begins with this quote, as it was found behind the quote
+abbrev pub read_string : LineNo → ℕ → Text → Option (Text × Text) → Result (Token × Text) LexFault
+read_string line quote cs None = if has_backslash quote cs then Err (fault.BadChar line) else Err (fault.Unclosed line)
+read_string line quote cs (Some x) = read_as line (quoted x.0) x.1
+
+abbrev pub read_sign : LineNo → Option (Symbol × Text) → Result (Token × Text) LexFault
+read_sign line None = Err (fault.BadChar line)
+read_sign line (Some x) = read_as line (sign x.0) x.1
+
+-- the token at the front, and the text behind it
+unfoldable pub read_token : LineNo → Text → Result (Token × Text) LexFault
+read_token line [] = Err (fault.BadChar line)
+read_token line (c ∷ cs) =
+    if starts_name c then word_read line (c ∷ cs)
+    else (if is_digit c then number_read line (c ∷ cs)
+    else (if is_quote c then read_string line c cs (string_at c cs) else read_sign line (symbol_at (c ∷ cs))))
 
 unfoldable pub token_piece : Context → Text → Result Next LexFault
-token_piece at [] = Err (fault.BadChar (line_no at.line))
-token_piece at (c ∷ cs) = if is_tabbed at.margin then Err (fault.TabIndent (line_no at.line)) else as_piece at c cs (lexeme_at (c ∷ cs))
+token_piece at cs =
+    if is_tabbed at.margin then Err (fault.TabIndent (line_no at.line)) else (read_token (line_no at.line) cs >>= λ x. fitted at x.0 x.1)
 
 abbrev pub gap_or : Option Next → Result Next LexFault → Result Next LexFault
 gap_or (Some x) other = Ok x

@@ -1,5 +1,6 @@
 -- Which texts are tokens.
 use Rattle.std.specs.Prelude.{◌≡◌, ℕ, ◌+◌, ◌-◌, ◌*◌, ◌^◌, ◌<◌, pos, Bool, true, false, ◌&&◌, ◌||◌, not, ◌==◌, nat_lt, List, [], ◌∷◌, ◌++◌, length, drop, take, codes, bytes_eq, encode_utf8_all, Option, Some, None, option_map, Result, Ok, Err, if◌then◌else◌}
+use Rattle.std.specs.List.{list_all}
 use Rattle.unicode_normalization.specs.Forms.{Nfkc, is_in_form}
 use Rattle.gp_base.specs.declared.name.LineNo.{LineNo}
 use Rattle.gp_lex.specs.declared.fault.LexFault.{LexFault}
@@ -167,7 +168,7 @@ number_from n (c ∷ cs) = number_from (n * 10 + (c - 48)) cs
 -- two or more digits with a zero before others
 abbrev pub has_leading_zero : Text → Bool
 has_leading_zero [] = false
-has_leading_zero (c ∷ cs) = c == 48 && not (every (λ d. d == 48) cs)
+has_leading_zero (c ∷ cs) = c == 48 && not (list_all (λ d. d == 48) cs)
 
 -- whether the digits are no number of the language
 abbrev pub is_bad_number : Text → Bool

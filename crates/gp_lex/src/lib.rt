@@ -6,6 +6,7 @@ mod character;
 mod context;
 pub mod fault;
 pub mod line;
+mod piece;
 mod quoted;
 mod symbol;
 pub mod token;

@@ -1,10 +1,9 @@
 //! The token that a lexeme is.
 
-ghost use Rattle.std.specs.Prelude.{◌≡◌, ◌-◌, true, string_bytes, ◌<◌, ◌≤◌, ◌^◌, ◌||◌, IfOk, IfSome, IsNone, MatchOption, nat_lt, pos, encode_utf8_all};
+ghost use Rattle.std.specs.Prelude.{◌≡◌, ◌-◌, string_bytes, ◌<◌, ◌^◌, ◌==◌, IfOk, MatchOption, pos, encode_utf8_all};
+ghost use Rattle.std.specs.List.{list_all};
 ghost use Rattle.unicode_normalization.specs.Forms.{Nfkc, is_in_form};
-ghost use Rattle.gp_lex.specs.Chars.{is_digit, every, first_passes, continues_name};
 ghost use Rattle.gp_lex.specs.Tokens as spec;
-ghost use Rattle.gp_lex.specs.Tokens.{word, digits};
 ghost use Rattle.gp_lex.specs.Reading.{Gives};
 
 use crate::character::continues_name;
@@ -97,30 +96,53 @@ pub fn word_token(alloc: Global, line: LineNo, characters: &[char]) -> Result<To
 /// The greatest number of the language.
 const GREATEST: u64 = 9_223_372_036_854_775_807;
 
+// Whether there are zeros alone.
+fn are_zeros(digits: &[char]) -> bool
+    ensures { result ≡ list_all (λ d. d == 48) digits.now }
+{
+    digits.iter().all(|d| *d == '0')
+}
+
 // Whether there are two or more digits with a zero before others.
 fn has_leading_zero(digits: &[char]) -> bool
     ensures { result ≡ spec.has_leading_zero digits.now }
 {
     match digits {
-        ['0', rest @ ..] => !rest.iter().all(|d| *d == '0'),
-        _ => false,
+        [first, rest @ ..] => *first == '0' && !are_zeros(rest),
+        [] => false,
     }
 }
 
 // The number that the digits spell, where it isn't too great.
 fn number_of(digits: &[char]) -> Option<i64>
-    requires { every is_digit digits.now ≡ true }
     ensures { MatchOption result (2 ^ 63 - 1 < spec.number_from 0 digits.now) (λ n. n ≡ pos (spec.number_from 0 digits.now)) }
 {
     let mut number = 0;
     for c in digits {
-        let digit = *c as u64 - 48;
+        let digit = (*c as u64).saturating_sub(48);
         if number > (GREATEST - digit) / 10 {
             return None;
         }
         number = number * 10 + digit;
     }
     Some(number as i64)
+}
+
+/// The number of digits, before the text behind them.
+pub fn number_token(line: LineNo, digits: &[char], rest: &[char]) -> Result<Token, LexFault>
+    ensures { Gives (λ x. x) result (spec.token_of line (spec.digits digits.now) rest.now) }
+{
+    let goes_on = match rest {
+        [c, ..] => continues_name(*c),
+        [] => false,
+    };
+    if has_leading_zero(digits) || goes_on {
+        return Err(LexFault::BadNumber(line));
+    }
+    match number_of(digits) {
+        Some(number) => Ok(Token::Number(number)),
+        None => Err(LexFault::BadNumber(line)),
+    }
 }
 
 /// The bytes of a string's text.

@@ -108,8 +108,8 @@ line_end_reads at (c ∷ []) x e =
 line_end_reads at (c ∷ d ∷ cs) x e =
     elim (chosen (eqb c 10) _ _ _ e) [
       | yes h go ↦ starts_with at c 10 (d ∷ cs) (k.LineEnd, d ∷ cs) x h (reads at (10 ∷ []) k.LineEnd (d ∷ cs) (g.line_feed (d ∷ cs))) go
-      | no h other ↦
-          elim (chosen (eqb c 13 && eqb d 10) _ _ _ other) [
+      | no h two ↦
+          elim (chosen (eqb c 13 && eqb d 10) _ _ _ two) [
             | yes both go ↦
                 let first : eqb c 13 ≡ true = grind (arith, nat_tests) in
                 let second : eqb d 10 ≡ true = grind (arith, nat_tests) in
@@ -253,7 +253,7 @@ at_tab at c cs h = rw h refl
 
 -- why no lexeme stands at the front
 abbrev pub broken : LineNo → ℕ → Text → LexFault
-broken line c cs = if is_quote c then (if has_backslash c cs then fault.BadChar line else fault.Unclosed line) else fault.BadChar line
+broken line c cs = cond (is_quote c) (cond (has_backslash c cs) (fault.BadChar line) (fault.Unclosed line)) (fault.BadChar line)
 
 abbrev pub as_piece : Context → ℕ → Text → Option (Lexeme × Text) → Result Next LexFault
 as_piece at c cs None = Err (broken (line_no at.line) c cs)

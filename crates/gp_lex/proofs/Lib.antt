@@ -7,3 +7,4 @@ pub mod Exact
 pub mod Whole
 pub mod Closing
 pub mod Numbers
+pub mod Comments

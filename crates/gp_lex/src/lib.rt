@@ -8,10 +8,12 @@ pub mod fault;
 pub mod line;
 mod piece;
 mod quoted;
+pub mod reader;
 mod symbol;
 pub mod token;
 mod value;
 
 pub use fault::LexFault;
 pub use line::{Lines, LogicalLine};
+pub use reader::lines;
 pub use token::{Keyword, Symbol, Token, Tokens};

@@ -8,3 +8,5 @@ pub mod Whole
 pub mod Closing
 pub mod Numbers
 pub mod Comments
+pub mod Turns
+pub mod Lexed

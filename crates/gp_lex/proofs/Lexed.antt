@@ -1,5 +1,5 @@
 -- The lines that are read are the text's, and the fault is its first.
-use Rattle.std.proofs.Common.{◌≡◌, ◌⊎◌, inl, inr, ℕ, ◌+◌, ◌≤◌, Bool, true, false, List, [], ◌∷◌, length, take, Option, Some, None, Result, Ok, Err, refl, sym, ap, subst, ◌∙◌, arith}
+use Rattle.std.proofs.Common.{◌≡◌, ◌⊎◌, inl, inr, ℕ, ◌+◌, ◌≤◌, Bool, true, false, cond, eqb, List, [], ◌∷◌, length, take, Option, Some, None, Result, Ok, Err, refl, sym, ap, subst, ◌∙◌, arith}
 use Rattle.std.specs.Prelude.{IsUtf8, chars}
 use Rattle.std.specs.Str.{is_utf8}
 use Rattle.std.specs.Str.Lossy.{utf8_valid_len}
@@ -109,9 +109,13 @@ one_or_the_other = record { one_list = one_list_of_lines; one_fault = one_first_
 
 mark_len : (cs : Text) → length (without_mark cs) ≤ length cs
 mark_len [] = omega arith
-mark_len (c ∷ cs) = ?
+mark_len (c ∷ cs) = by (eqb c 0xFEFF)
+  where
+    by : (b : Bool) → length (cond b cs (c ∷ cs)) ≤ length (c ∷ cs)
+    by true = omega arith
+    by false = omega arith
 
 pub source_len : (bytes : List ℕ) → IsUtf8 bytes → length (source bytes) ≤ length bytes
-source_len bytes (cs, scalar, e) =
+source_len bytes (cs, (scalar, e)) =
     let is : chars bytes ≡ cs = ap chars (sym e) ∙ chars-encodes cs scalar in
     omega (arith, mark_len (chars bytes), ap length is, length-le-encodes cs, ap length e)

@@ -5,10 +5,11 @@
 mod character;
 mod context;
 pub mod fault;
+pub mod laws;
 pub mod line;
 mod piece;
 mod quoted;
-pub mod reader;
+mod reader;
 mod symbol;
 pub mod token;
 mod value;

@@ -29,7 +29,11 @@ two_at (c ∷ text) (suc len) lt =
     let a : suc len + 1 ≡ suc (len + 1) = omega arith in
     let b : suc len + 2 ≡ suc (len + 2) = omega arith in
     record {
-      first = t.first; second = t.second; rest = t.rest; here = t.here; is = t.is;
+      first = t.first;
+      second = t.second;
+      rest = t.rest;
+      here = t.here;
+      is = t.is;
       one = ap (λ (n : ℕ). drop n (c ∷ text)) a ∙ t.one;
       two = ap (λ (n : ℕ). drop n (c ∷ text)) b ∙ t.two;
     }
@@ -70,9 +74,9 @@ passes_backslash q len r text total lt at h so_far =
     let t = two_at text len lt in (
       omega arith,
       so_far ∙ ap (λ (z : Text). later len (closing q z)) t.here
-      ∙ ap (later len) (over_backslash q t.first t.second t.rest (eq-eqb t.first 92 (sym (t.is r) ∙ sym at ∙ h)))
-      ∙ more 2 len (closing q t.rest)
-      ∙ ap (λ (z : Text). later (len + 2) (closing q z)) (sym t.two),
+          ∙ ap (later len) (over_backslash q t.first t.second t.rest (eq-eqb t.first 92 (sym (t.is r) ∙ sym at ∙ h)))
+          ∙ more 2 len (closing q t.rest)
+          ∙ ap (λ (z : Text). later (len + 2) (closing q z)) (sym t.two),
     )
 
 other_first : (text : Text) (len r : ℕ) (t : Two text len) → r ≡ get_or text len r → (r ≡ 92 → ⊥) → eqb t.first 92 ≡ false
@@ -84,9 +88,9 @@ passes_other q len r text rest total lt at h same n so_far =
     let t = two_at text len lt in (
       omega arith,
       so_far ∙ ap (λ (z : Text). later len (closing q z)) t.here
-      ∙ ap (later len) (over_other q t.first t.second t.rest (other_first text len r t at h) (ap (begins_thrice q) (sym t.here ∙ sym same) ∙ n))
-      ∙ more 1 len (closing q (t.second ∷ t.rest))
-      ∙ ap (λ (z : Text). later (len + 1) (closing q z)) (sym t.one),
+          ∙ ap (later len) (over_other q t.first t.second t.rest (other_first text len r t at h) (ap (begins_thrice q) (sym t.here ∙ sym same) ∙ n))
+          ∙ more 1 len (closing q (t.second ∷ t.rest))
+          ∙ ap (λ (z : Text). later (len + 1) (closing q z)) (sym t.one),
     )
 
 pub closes_here : (q len r : ℕ) (text rest : Text) (total : Option ℕ) → len + 1 < length text → r ≡ get_or text len r → (r ≡ 92 → ⊥) → rest ≡ drop len text → begins_thrice q rest ≡ true

@@ -18,3 +18,6 @@ pub use fault::LexFault;
 pub use line::{Lines, LogicalLine};
 pub use reader::lines;
 pub use token::{Keyword, Symbol, Token, Tokens};
+
+#[cfg(test)]
+mod tests;

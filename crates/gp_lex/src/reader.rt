@@ -161,13 +161,7 @@ fn without_mark(text: &[char]) -> &[char]
     ensures { result.now ≡ spec.without_mark text.now }
 {
     match text {
-        [c, rest @ ..] => {
-            if *c == '\u{feff}' {
-                rest
-            } else {
-                text
-            }
-        }
+        [c, rest @ ..] => { if *c == '\u{feff}' { rest } else { text } }
         [] => text,
     }
 }

@@ -7,7 +7,7 @@ use Rattle.gp_lex.proofs.quoted.closing.Goals as goal
 pub returns-then-begins_thrice : goal.returns-then-begins_thrice
 returns-then-begins_thrice c =
     let e = closes_here c.args.quote c.loop-len.len c.index-text-len.result c.args.text.now c.split_at.result.1.now (closing c.args.quote c.args.text.now) c.loop-len-test.true
-        c.index-text-len.is c.if-text-len-eq92.false c.split_at.ensures.back (sym c.begins_thrice.ensures ∙ c.if-begins_thrice.true) c.loop-len.invariant.1 in
+    c.index-text-len.is c.if-text-len-eq92.false c.split_at.ensures.back (sym c.begins_thrice.ensures ∙ c.if-begins_thrice.true) c.loop-len.invariant.1 in
     record { value = e; bound = closing_bound c.args.quote c.args.text.now c.loop-len.len (sym e) }
 
 pub loop-len-preserved : goal.loop-len-preserved

@@ -18,11 +18,11 @@ returns-in-Err c =
 pub lines_of-requires : goal.lines_of-requires
 lines_of-requires c =
     let is : c.without_mark.result.now ≡ source c.args.text.now =
-        c.without_mark.ensures ∙ ap without_mark (c.as_slice.ensures.value ∙ c.in_ok-characters.ensures ∙ ap chars c.in-Ok.ensures.cases.0) in
+    c.without_mark.ensures ∙ ap without_mark (c.as_slice.ensures.value ∙ c.in_ok-characters.ensures ∙ ap chars c.in-Ok.ensures.cases.0) in
     omega (arith, ap length is, source_len c.args.text.now c.in-Ok.ensures.cases.1)
 
 pub returns : goal.returns
 returns c =
     let is : c.without_mark.result.now ≡ source c.args.text.now =
-        c.without_mark.ensures ∙ ap without_mark (c.as_slice.ensures.value ∙ c.in_ok-characters.ensures ∙ ap chars c.in-Ok.ensures.cases.0) in
+    c.without_mark.ensures ∙ ap without_mark (c.as_slice.ensures.value ∙ c.in_ok-characters.ensures ∙ ap chars c.in-Ok.ensures.cases.0) in
     lexed c.args.text.now c.lines_of.result c.in-Ok.ensures.cases.1 (subst (λ (z : Text). Gives (λ ls. ls) c.lines_of.result (lines_of z)) is c.lines_of.ensures)

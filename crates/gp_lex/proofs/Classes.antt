@@ -1,13 +1,12 @@
 -- Classes of characters, and what a text is by its first character.
-use Rattle.std.proofs.Common.{◌≡◌, ℕ, Bool, true, false, cond, eqb, not, ◌||◌, [], ◌∷◌, ◌++◌, Option, Some, None, refl, sym, ap, ◌∙◌, lit<, arith}
+use Rattle.std.proofs.Common.{◌≡◌, ℕ, Bool, true, false, cond, eqb, ◌||◌, [], ◌∷◌, Some, None, refl, ap, ◌∙◌, lit<, arith}
 use Rattle.std.proofs.lemmas.Bool.{eqb-true}
 use Rattle.std.proofs.lemmas.Bool.Decides.{nat_tests}
 use Rattle.std.specs.Prelude.{option_map}
 use Rattle.unicode_ident.specs.Ident.{is_xid_start, is_xid_continue}
 use Rattle.unicode_ident.proofs.IdentLemmas.{is_xid_start-ascii, is_xid_continue-ascii, is_xid_start-is_xid_continue}
-use Rattle.gp_lex.specs.declared.token.Symbol.{Symbol}
 use Rattle.gp_lex.specs.Chars.{Text, starts_name, continues_name, is_digit, is_quote, every}
-use Rattle.gp_lex.specs.Tokens.{symbol_of, string_at, Lexeme, word, digits, quoted, sign, as_string, lexeme_of}
+use Rattle.gp_lex.specs.Tokens.{symbol_of, string_at, word, digits, sign, as_string, lexeme_of}
 use Rattle.gp_lex.specs.Pieces.{splits_quotes}
 use Rattle.gp_lex.proofs.Fronts.{yes, no, chosen}
 

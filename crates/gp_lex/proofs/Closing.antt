@@ -1,5 +1,5 @@
 -- The three quotes that close a string, as a loop looks for them.
-use Rattle.std.proofs.Common.{◌≡◌, ℕ, zero, suc, eq-eqb, ◌+◌, ◌<◌, ◌≤◌, Bool, true, false, cond, eqb, get_or, [], ◌∷◌, length, drop, Option, Some, None, refl, sym, ap, ◌∙◌, arith, length-drop}
+use Rattle.std.proofs.Common.{◌≡◌, ℕ, zero, suc, eq-eqb, ◌+◌, ◌<◌, ◌≤◌, Bool, true, false, eqb, get_or, [], ◌∷◌, length, drop, Option, Some, None, refl, sym, ap, ◌∙◌, arith, length-drop}
 use Rattle.std.proofs.lemmas.Bool.{eqb-true}
 use Rattle.std.specs.Prelude.{option_map}
 use Rattle.gp_lex.specs.Chars.{Text}

@@ -1,5 +1,5 @@
 -- The end of a comment, as a loop looks for it.
-use Rattle.std.proofs.Common.{◌≡◌, ℕ, suc, ◌+◌, ◌<◌, ◌≤◌, Bool, true, false, not, [], ◌∷◌, length, drop, get_or, refl, sym, ap, ◌∙◌, arith, drop-cons}
+use Rattle.std.proofs.Common.{◌≡◌, ℕ, suc, ◌+◌, ◌<◌, ◌≤◌, Bool, false, ◌∷◌, length, drop, get_or, refl, sym, ap, ◌∙◌, arith, drop-cons}
 use Rattle.gp_lex.specs.Chars.{Text, ends_line}
 use Rattle.gp_lex.specs.Pieces.{comment_len}
 

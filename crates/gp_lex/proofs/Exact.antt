@@ -1,15 +1,13 @@
 -- The pieces that are cut off are the text's, and the fault is the first.
-use Rattle.std.proofs.Common.{◌≡◌, ℕ, zero, suc, ◌+◌, ◌-◌, ◌<◌, ◌≤◌, Bool, true, false, cond, eqb, ◌&&◌, ◌||◌, List, [], ◌∷◌, ◌++◌, length, take, drop, Option, Some, None, Result, Ok, Err, refl, sym, ap, subst, ◌∙◌, arith, length-append}
-use Rattle.std.proofs.lemmas.Bool.{eqb-true, eqb-false}
+use Rattle.std.proofs.Common.{◌≡◌, ℕ, ◌+◌, ◌≤◌, Bool, true, false, cond, eqb, ◌&&◌, ◌||◌, [], ◌∷◌, ◌++◌, length, take, drop, Option, Some, None, Result, Ok, Err, refl, sym, ap, subst, ◌∙◌, arith}
+use Rattle.std.proofs.lemmas.Bool.{eqb-true}
 use Rattle.std.proofs.lemmas.Bool.Decides.{nat_tests}
 use Rattle.std.proofs.lemmas.List.{take-append-drop, length-take-le}
-use Rattle.std.proofs.Math.Seq.{take-append_seam, drop-append_seam}
 use Rattle.gp_base.specs.declared.name.LineNo.{LineNo}
 use Rattle.gp_lex.specs.declared.fault.LexFault.{LexFault}
 use Rattle.gp_lex.specs.declared.fault.LexFault.TheVariants as fault
 use Rattle.gp_lex.specs.declared.token.Symbol.{Symbol}
 use Rattle.gp_lex.specs.declared.token.Token.{Token}
-use Rattle.gp_lex.specs.declared.context.Bracket.{Bracket}
 use Rattle.gp_lex.specs.declared.context.Context.{Context}
 use Rattle.gp_lex.specs.declared.context.PieceKind.{PieceKind}
 use Rattle.gp_lex.specs.declared.context.PieceKind.TheVariants as k
@@ -17,11 +15,11 @@ use Rattle.gp_lex.specs.Chars.{Text, continues_name, is_digit, is_quote, ends_li
 use Rattle.gp_lex.specs.Tokens.{string_at, Lexeme, word, digits, quoted, sign, lexeme_of, token_of}
 use Rattle.gp_lex.specs.Pieces as g
 use Rattle.gp_lex.specs.Pieces.{Piece, behind, line_no, is_tabbed, fits, splits_quotes, IsAt, comment_len, is_gap, IsPiece, Spelled, has_backslash, Unread, Faulty}
-use Rattle.gp_lex.specs.Reading.{◌>>=◌, symbol_at, lexeme_at, as_quoted, as_sign, Next, line_end_at, gap_at, fitted, read_string, read_sign, read_token, token_piece, gap_or, piece_at, at_end, front, pieces_from}
+use Rattle.gp_lex.specs.Reading.{◌>>=◌, symbol_at, lexeme_at, as_quoted, as_sign, Next, line_end_at, gap_at, fitted, read_string, read_sign, read_token, token_piece, piece_at}
 use Rattle.gp_lex.proofs.Fronts.{yes, no, chosen}
 use Rattle.gp_lex.proofs.Symbols.{some, some_is, some_none}
 use Rattle.gp_lex.proofs.Classes.{no_space, no_tab, no_hash, no_feed, no_return, no_quotes}
-use Rattle.gp_lex.proofs.Longest.{Begins, name, number, string, other, begins, Taken, lexeme_taken, no_lexeme, lexeme_found, at_string}
+use Rattle.gp_lex.proofs.Longest.{Begins, name, number, string, other, begins, Taken, lexeme_taken, no_lexeme, at_string}
 
 -- ---- steps
 

@@ -1,5 +1,5 @@
 -- The lines that are read are the text's, and the fault is its first.
-use Rattle.std.proofs.Common.{◌≡◌, ◌⊎◌, inl, inr, ℕ, ◌+◌, ◌≤◌, Bool, true, false, cond, eqb, List, [], ◌∷◌, length, take, Option, Some, None, Result, Ok, Err, refl, sym, ap, subst, ◌∙◌, arith}
+use Rattle.std.proofs.Common.{◌≡◌, ◌⊎◌, inl, inr, ℕ, ◌+◌, ◌≤◌, Bool, true, false, cond, eqb, List, [], ◌∷◌, length, take, None, Result, Ok, Err, refl, sym, ap, ◌∙◌, arith}
 use Rattle.std.specs.Prelude.{IsUtf8, chars}
 use Rattle.std.specs.Str.{is_utf8}
 use Rattle.std.specs.Str.Lossy.{utf8_valid_len}
@@ -10,10 +10,10 @@ use Rattle.gp_lex.specs.declared.line.LogicalLine.{LogicalLine}
 use Rattle.gp_lex.specs.Chars.{Text, line_feeds}
 use Rattle.gp_lex.specs.Pieces.{Piece, at_start, line_no, Spelled, Faulty}
 use Rattle.gp_lex.specs.Lines.{lines_from, without_mark, source, HasLines, HasFault, not_utf8, in_text, IsLexed, PiecesAreOne, LinesOrFault}
-use Rattle.gp_lex.specs.Reading.{◌>>=◌, Gives, pieces_from, with_lines, lines_of}
-use Rattle.gp_lex.proofs.Exact.{bind_ok, Stops, here, later, bind_err, ok, ok_is}
+use Rattle.gp_lex.specs.Reading.{Gives, pieces_from, lines_of}
+use Rattle.gp_lex.proofs.Exact.{bind_ok, here, later, bind_err, ok_is}
 use Rattle.gp_lex.proofs.Whole.{pieces_spelled, pieces_faulty, cuts, refuses, joined}
-use Rattle.gp_lex.proofs.Turns.{Total, refused}
+use Rattle.gp_lex.proofs.Turns.{Total}
 
 -- ---- one list of pieces, one list of lines, one fault
 

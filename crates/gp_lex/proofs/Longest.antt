@@ -7,8 +7,8 @@ use Rattle.gp_lex.specs.Chars.{Text, starts_name, continues_name, is_digit, is_q
 use Rattle.gp_lex.specs.Tokens.{symbol_of, string_at, Lexeme, word, digits, quoted, sign, as_string, lexeme_of}
 use Rattle.gp_lex.specs.Pieces.{splits_quotes, IsAt}
 use Rattle.gp_lex.specs.Reading.{symbol_at, as_sign, as_quoted, lexeme_at}
-use Rattle.gp_lex.proofs.Fronts.{yes, no, chosen, Runs, runs, every_front}
-use Rattle.gp_lex.proofs.Symbols.{some, some_is, some_none, Marks, symbol_marks, no_symbol_at}
+use Rattle.gp_lex.proofs.Fronts.{Runs, runs, every_front}
+use Rattle.gp_lex.proofs.Symbols.{some, some_is, some_none, symbol_marks, no_symbol_at}
 use Rattle.gp_lex.proofs.Strings.{string_extends, StringCut, string_cut}
 use Rattle.gp_lex.proofs.Classes.{starts_continues, quote_starts, starts_quote, digit_quote, quote_digit, no_quotes, of_start, of_digit, of_quote, of_other}
 

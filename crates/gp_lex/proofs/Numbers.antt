@@ -1,5 +1,5 @@
 -- The number that digits spell, as a loop reads them.
-use Rattle.std.proofs.Common.{◌≡◌, ℕ, suc, ◌+◌, ◌-◌, ◌*◌, ◌/◌, ◌<◌, ◌≤◌, [], ◌∷◌, length, drop, get_or, refl, ap, ◌∙◌, arith, drop-cons, add-one}
+use Rattle.std.proofs.Common.{◌≡◌, ℕ, suc, ◌+◌, ◌-◌, ◌*◌, ◌/◌, ◌<◌, ◌≤◌, [], ◌∷◌, length, drop, get_or, ap, ◌∙◌, arith, drop-cons}
 use Rattle.gp_lex.specs.Chars.{Text}
 use Rattle.gp_lex.specs.Tokens.{number_from}
 

@@ -1,15 +1,15 @@
 -- A string is cut off where it ends.
-use Rattle.std.proofs.Common.{◌≡◌, ℕ, suc, ◌<◌, ◌≤◌, ◌+◌, Bool, true, false, cond, eqb, eq-eqb, not, ◌&&◌, ◌||◌, [], ◌∷◌, ◌++◌, length, take, drop, Option, Some, None, refl, sym, ap, subst, ◌∙◌, arith, length-append, append_assoc}
+use Rattle.std.proofs.Common.{◌≡◌, ℕ, ◌<◌, ◌≤◌, ◌+◌, Bool, true, false, eqb, eq-eqb, not, ◌&&◌, ◌||◌, [], ◌∷◌, ◌++◌, length, take, drop, Option, Some, None, refl, sym, ap, ◌∙◌, arith, append_assoc}
 use Rattle.std.proofs.lemmas.List.{take-append-le, drop-append-le, take-append-drop, length-take-le}
 use Rattle.std.proofs.Math.Seq.{drop-length}
 use Rattle.std.proofs.lemmas.Bool.{eqb-true}
 use Rattle.std.proofs.lemmas.Bool.Decides.{nat_tests}
 use Rattle.std.specs.Prelude.{option_map}
-use Rattle.gp_lex.specs.Chars.{Text, is_quote, is_plain, every, first_passes, run}
-use Rattle.gp_lex.specs.Tokens.{begins_twice, begins_thrice, closing, triple_quoted, single_quoted, string_at, Lexeme, as_string}
+use Rattle.gp_lex.specs.Chars.{Text, is_quote, is_plain, every, run}
+use Rattle.gp_lex.specs.Tokens.{begins_twice, begins_thrice, closing, triple_quoted, single_quoted, string_at}
 use Rattle.gp_lex.specs.Pieces.{splits_quotes}
-use Rattle.gp_lex.proofs.Fronts.{yes, no, chosen, Runs, runs, run_is}
-use Rattle.gp_lex.proofs.Symbols.{some, some_is, some_none}
+use Rattle.gp_lex.proofs.Fronts.{yes, no, chosen, runs, run_is}
+use Rattle.gp_lex.proofs.Symbols.{some, some_is}
 
 abbrev Cut : Type 0
 Cut = Text × Text

@@ -1,5 +1,5 @@
 -- Pieces one after the other, as a loop cuts them off and gathers the lines.
-use Rattle.std.proofs.Common.{◌≡◌, ℕ, zero, suc, ◌+◌, ◌-◌, ◌<◌, ◌≤◌, Bool, true, false, cond, eqb, List, [], ◌∷◌, ◌++◌, length, Option, Some, None, Result, Ok, Err, refl, sym, ap, subst, ◌∙◌, arith, append_assoc, length-append}
+use Rattle.std.proofs.Common.{◌≡◌, ℕ, suc, ◌+◌, ◌-◌, ◌<◌, ◌≤◌, false, eqb, List, [], ◌∷◌, ◌++◌, length, Option, Some, None, Result, Ok, Err, refl, sym, ap, subst, ◌∙◌, arith, append_assoc, length-append}
 use Rattle.std.specs.Prelude.{◌==◌}
 use Rattle.std.proofs.lemmas.List.Sums.{count_by-le-length}
 use Rattle.gp_lex.specs.declared.fault.LexFault.{LexFault}
@@ -9,13 +9,12 @@ use Rattle.gp_lex.specs.declared.context.Bracket.{Bracket}
 use Rattle.gp_lex.specs.declared.context.Context.{Context}
 use Rattle.gp_lex.specs.declared.context.Margin.{Margin}
 use Rattle.gp_lex.specs.declared.context.PieceKind.{PieceKind}
-use Rattle.gp_lex.specs.declared.context.PieceKind.TheVariants as k
 use Rattle.gp_lex.specs.Chars.{Text, line_feeds}
 use Rattle.gp_lex.specs.Pieces as g
 use Rattle.gp_lex.specs.Pieces.{Piece, at_start, behind, indent_of, with_space, with_tab, new_margin, IsPiece}
 use Rattle.gp_lex.specs.Lines.{begun_behind, ended_by, lines_from}
-use Rattle.gp_lex.specs.Reading.{◌>>=◌, Fails, Gives, Next, piece_at, at_end, front, pieces_from, with_lines, lines_of}
-use Rattle.gp_lex.proofs.Exact.{Reads, piece_reads}
+use Rattle.gp_lex.specs.Reading.{◌>>=◌, Fails, Gives, piece_at, at_end, front, pieces_from, with_lines, lines_of}
+use Rattle.gp_lex.proofs.Exact.{piece_reads}
 use Rattle.gp_lex.proofs.Whole.{turn, turn_fails, nothing_left, reads_front, reads_less}
 
 abbrev pub Total : Type 0

@@ -1,9 +1,7 @@
 -- All pieces of a text, or its first fault.
-use Rattle.std.proofs.Common.{◌≡◌, ℕ, zero, suc, ◌+◌, ◌-◌, ◌<◌, ◌≤◌, Bool, true, false, cond, eqb, List, [], ◌∷◌, ◌++◌, length, take, drop, Option, Some, None, Result, Ok, Err, refl, sym, ap, subst, ◌∙◌, arith, length-append}
-use Rattle.std.proofs.lemmas.Bool.{eqb-true}
+use Rattle.std.proofs.Common.{◌≡◌, ℕ, zero, suc, ◌-◌, ◌<◌, ◌≤◌, true, false, List, [], ◌∷◌, ◌++◌, length, take, drop, Option, Some, None, Result, Ok, Err, refl, sym, ap, subst, ◌∙◌, arith, length-append}
 use Rattle.std.proofs.Math.Seq.{take-append_seam, drop-append_seam}
 use Rattle.std.specs.Prelude.{flat_map}
-use Rattle.gp_base.specs.declared.name.LineNo.{LineNo}
 use Rattle.gp_lex.specs.declared.fault.LexFault.{LexFault}
 use Rattle.gp_lex.specs.declared.fault.LexFault.TheVariants as fault
 use Rattle.gp_lex.specs.declared.token.Token.{Token}
@@ -15,10 +13,10 @@ use Rattle.gp_lex.specs.Chars.{Text, is_quote}
 use Rattle.gp_lex.specs.Tokens.{string_at, Lexeme, lexeme_of, token_of}
 use Rattle.gp_lex.specs.Pieces as g
 use Rattle.gp_lex.specs.Pieces.{Piece, behind, line_no, is_tabbed, fits, IsAt, comment_len, is_gap, IsPiece, Spelled, has_backslash, Unread, Faulty}
-use Rattle.gp_lex.specs.Reading.{◌>>=◌, lexeme_at, as_quoted, Next, line_end_at, gap_at, fitted, token_piece, piece_at, at_end, front, pieces_from}
-use Rattle.gp_lex.proofs.Symbols.{some, some_none}
-use Rattle.gp_lex.proofs.Longest.{Taken, lexeme_taken, lexeme_found, at_string}
-use Rattle.gp_lex.proofs.Exact.{broken, as_piece, bind_ok, Stops, here, later, bind_err, ok, ok_is, Reads, piece_reads, piece_unread, at_gap, at_no_gap, at_tab, at_no_tab, no_gap, lexeme_gap, quote_gap}
+use Rattle.gp_lex.specs.Reading.{◌>>=◌, lexeme_at, as_quoted, Next, line_end_at, gap_at, fitted, piece_at, at_end, front, pieces_from}
+use Rattle.gp_lex.proofs.Symbols.{some_none}
+use Rattle.gp_lex.proofs.Longest.{lexeme_taken, lexeme_found, at_string}
+use Rattle.gp_lex.proofs.Exact.{broken, as_piece, bind_ok, here, later, bind_err, ok_is, Reads, piece_reads, piece_unread, at_gap, at_no_gap, at_tab, at_no_tab, no_gap, lexeme_gap, quote_gap}
 
 abbrev next : Next → Option Next
 next x = Some x

@@ -1,5 +1,5 @@
 -- The logical lines of a text, and its first fault.
-use Rattle.std.specs.Prelude.{◌≡◌, ◌⊎◌, ℕ, ◌+◌, ◌==◌, List, [], ◌∷◌, ◌++◌, length, take, flat_map, chars, Option, Some, None, Result, Ok, Err, IsUtf8, if◌then◌else◌}
+use Rattle.std.specs.Prelude.{◌≡◌, ◌⊎◌, ℕ, ◌+◌, ◌==◌, List, [], ◌∷◌, ◌++◌, take, flat_map, chars, Option, Some, None, Result, Ok, Err, IsUtf8, if◌then◌else◌}
 use Rattle.std.specs.Str.Lossy.{utf8_valid_len}
 use Rattle.gp_base.specs.declared.name.LineNo.{LineNo}
 use Rattle.gp_lex.specs.declared.fault.LexFault.{LexFault}

@@ -1,5 +1,5 @@
 -- Which pieces spell a text, and where it can't be read on.
-use Rattle.std.specs.Prelude.{◌≡◌, ℕ, ◌+◌, ◌<◌, Bool, true, false, ◌&&◌, ◌||◌, not, ◌==◌, List, [], ◌∷◌, ◌++◌, length, Option, Some, None, Result, Ok, Err, if◌then◌else◌}
+use Rattle.std.specs.Prelude.{◌≡◌, ℕ, ◌+◌, ◌<◌, Bool, true, false, ◌&&◌, ◌||◌, not, ◌==◌, List, [], ◌∷◌, ◌++◌, length, Option, Some, None, Ok, Err, if◌then◌else◌}
 use Rattle.gp_base.specs.declared.name.LineNo.{LineNo}
 use Rattle.gp_lex.specs.declared.fault.LexFault.{LexFault}
 use Rattle.gp_lex.specs.declared.fault.LexFault.TheVariants.{TabIndent, BadChar, Unclosed}

@@ -1,5 +1,5 @@
 -- Pieces from left to right: what the functions of the crate read at the front of a text.
-use Rattle.std.specs.Prelude.{◌≡◌, ◌+◌, ◌-◌, ℕ, zero, suc, Bool, ◌==◌, ◌&&◌, List, [], ◌∷◌, ◌++◌, length, take, drop, Option, Some, None, Result, Ok, Err, if◌then◌else◌}
+use Rattle.std.specs.Prelude.{◌≡◌, ◌-◌, ℕ, zero, suc, ◌==◌, ◌&&◌, List, [], ◌∷◌, ◌++◌, length, take, drop, Option, Some, None, Result, Ok, Err, if◌then◌else◌}
 use Rattle.gp_base.specs.declared.name.LineNo.{LineNo}
 use Rattle.gp_lex.specs.declared.fault.LexFault.{LexFault}
 use Rattle.gp_lex.specs.declared.fault.LexFault.TheVariants as fault
@@ -13,7 +13,7 @@ use Rattle.gp_lex.specs.declared.context.PieceKind.TheVariants as k
 use Rattle.gp_lex.specs.Chars.{Text, starts_name, continues_name, is_digit, is_quote, run}
 use Rattle.gp_lex.specs.Tokens.{symbol_of_one, symbol_of_two, symbol_of_three, string_at, Lexeme, word, digits, quoted, sign, token_of}
 use Rattle.gp_lex.specs.Pieces.{Piece, at_start, line_no, behind, is_tabbed, fits, comment_len, has_backslash}
-use Rattle.gp_lex.specs.Lines.{lines_from, source}
+use Rattle.gp_lex.specs.Lines.{lines_from}
 
 infixl 10 ◌>>=◌
 abbrev pub ◌>>=◌ : {A B : Type 0} → Result A LexFault → (A → Result B LexFault) → Result B LexFault

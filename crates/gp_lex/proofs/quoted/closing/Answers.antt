@@ -1,7 +1,7 @@
-use Rattle.std.proofs.Common.{◌≡◌, sym, ap, ◌∙◌, arith, Some}
+use Rattle.std.proofs.Common.{sym, ◌∙◌}
 use Rattle.gp_lex.specs.Tokens.{closing}
 use Rattle.gp_lex.proofs.Strings.{closing_bound}
-use Rattle.gp_lex.proofs.Closing.{begins_so, closes_here, closes_nowhere, passes_other, passes_backslash}
+use Rattle.gp_lex.proofs.Closing.{closes_here, closes_nowhere, passes_other, passes_backslash}
 use Rattle.gp_lex.proofs.quoted.closing.Goals as goal
 
 pub returns-then-begins_thrice : goal.returns-then-begins_thrice

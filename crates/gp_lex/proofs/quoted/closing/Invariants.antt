@@ -1,4 +1,4 @@
-use Rattle.std.proofs.Common.{◌≡◌, ◌+◌, ◌-◌, ◌≤◌, length, drop}
+use Rattle.std.proofs.Common.{◌≡◌, ◌-◌, ◌≤◌, length, drop}
 use Rattle.gp_lex.specs.Tokens.{closing}
 use Rattle.gp_lex.proofs.Closing.{later}
 use Rattle.gp_lex.proofs.quoted.closing.Given as goal

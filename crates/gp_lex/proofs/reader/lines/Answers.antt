@@ -1,4 +1,4 @@
-use Rattle.std.proofs.Common.{◌≡◌, ℕ, ◌+◌, ◌≤◌, List, length, take, sym, ap, subst, ◌∙◌, arith}
+use Rattle.std.proofs.Common.{◌≡◌, ℕ, ◌+◌, length, take, sym, ap, subst, ◌∙◌, arith}
 use Rattle.std.specs.Prelude.{chars}
 use Rattle.gp_base.specs.declared.name.LineNo.{LineNo}
 use Rattle.gp_lex.specs.declared.fault.LexFault.TheVariants.{NotUtf8}

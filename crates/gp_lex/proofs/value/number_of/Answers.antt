@@ -1,4 +1,3 @@
-use Rattle.std.proofs.Common.{arith}
 use Rattle.gp_lex.proofs.Numbers.{exceeds}
 use Rattle.gp_lex.proofs.value.number_of.Goals as goal
 

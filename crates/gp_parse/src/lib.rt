@@ -2,6 +2,9 @@
 #![tactic(auto)]
 
 pub mod laws;
+mod level;
+mod list_end;
+mod part_fault;
 pub mod thin_text;
 
 pub use thin_text::{ThinLine, ThinLines, thin};

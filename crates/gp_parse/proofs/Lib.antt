@@ -4,3 +4,4 @@ pub mod Follow
 pub mod PlainTokens
 pub mod StepLemmas
 pub mod ThinLemmas
+pub mod Turns

@@ -1,0 +1,5 @@
+pub mod Expression
+pub mod Form
+pub mod Program
+pub mod Statement
+pub mod TypeExpression

@@ -1,0 +1,18 @@
+-- The size of a type: 1 for `int`, `bool` and `qubit`, and 1 more than the sizes of its parts for a tuple or a struct.
+use Rattle.std.specs.Prelude.{ℕ, suc, ◌+◌}
+use Rattle.gp_types.specs.Types as types
+use Rattle.gp_types.specs.Types.{Ty, Tys, Fields}
+
+abbrev mutual
+  pub size : Ty → ℕ
+  size (types.Tuple items) = suc (total_size items)
+  size (types.Struct name fields) = suc (total_field_size fields)
+  size _ = 1
+
+  pub total_size : Tys → ℕ
+  total_size types.none = 0
+  total_size (types.more t ts) = size t + total_size ts
+
+  pub total_field_size : Fields → ℕ
+  total_field_size types.end = 0
+  total_field_size (types.field name t fs) = size t + total_field_size fs

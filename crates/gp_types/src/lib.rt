@@ -1,0 +1,17 @@
+//! Types of the source language, how functions take and answer them, and the built-in functions.
+#![tactic(auto)]
+
+pub mod builtins;
+pub mod names;
+pub mod same;
+pub mod signature;
+pub mod ty;
+
+pub use builtins::{Builtin, BuiltinParameter, BuiltinType};
+pub use names::builtin;
+pub use same::{copy, same_type};
+pub use signature::{Mode, SigParam, SigParams, Signature};
+pub use ty::{Field, Fields, Ty, Tys, is_linear, leaf_count, size};
+
+#[cfg(test)]
+mod tests;

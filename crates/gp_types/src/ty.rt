@@ -1,0 +1,138 @@
+//! Types, and what follows from them alone: whether they are linear, their size and how many leaves they have.
+
+ghost use Rattle.std.specs.Prelude.{◌≡◌, ◌+◌, ◌-◌, ◌^◌, length, map, min};
+ghost use Rattle.gp_types.specs.Types.{tys_of, fields_of};
+ghost use Rattle.gp_types.specs.View.{ty_view, field_view};
+ghost use Rattle.gp_types.specs.Linear as spec;
+ghost use Rattle.gp_types.specs.Size as sizes;
+ghost use Rattle.gp_types.specs.Leaves.{leaves, field_leaves};
+
+use gp_base::Name;
+
+/// A type of the source language.
+#[derive(Debug, Drop)]
+#[cycle(ty)]
+pub enum Ty {
+    /// `int`: a whole number of 64 bits with a sign.
+    Int,
+    /// `bool`: a truth value.
+    Bool,
+    /// `qubit`: a qubit, which is used exactly once.
+    Qubit,
+    /// `tuple[..]`: the values of these types, in order.
+    Tuple(Tys),
+    /// A struct, by its name, with its fields in order.
+    Struct(Name, Fields),
+}
+
+/// A list of types.
+pub type Tys = Vec<Ty>;
+
+/// A field of a struct.
+#[derive(Debug, Drop)]
+#[cycle(ty)]
+pub struct Field {
+    /// The field's name.
+    pub name: Name,
+    /// The field's type.
+    pub ty: Ty,
+}
+
+/// A list of fields, in the order in which the struct declares them.
+pub type Fields = Vec<Field>;
+
+/// Whether values of the type hold a qubit, so that each is used exactly once: `qubit`, and a tuple or a struct with
+/// a linear part. Takes no memory.
+#[cycle(linear)]
+pub fn is_linear(ty: &Ty) -> bool
+    ensures { result ≡ spec.is_linear (ty_view ty.now) }
+{
+    match ty {
+        Ty::Int | Ty::Bool => false,
+        Ty::Qubit => true,
+        Ty::Tuple(items) => has_linear(items),
+        Ty::Struct(_, fields) => has_linear_field(fields),
+    }
+}
+
+#[cycle(linear)]
+fn has_linear(items: &[Ty]) -> bool
+    ensures { result ≡ spec.has_linear (tys_of (map ty_view items.now)) }
+{
+    for item in items {
+        if is_linear(item) {
+            return true;
+        }
+    }
+    false
+}
+
+#[cycle(linear)]
+fn has_linear_field(fields: &[Field]) -> bool
+    ensures { result ≡ spec.has_linear_field (fields_of (map field_view fields.now)) }
+{
+    for field in fields {
+        if is_linear(&field.ty) {
+            return true;
+        }
+    }
+    false
+}
+
+/// The size of a type: 1 for `int`, `bool` and `qubit`, and 1 more than the sizes of its parts for a tuple or a struct;
+/// 2^64 - 1 where that is less. Takes no memory.
+#[cycle(size)]
+pub fn size(ty: &Ty) -> u64
+    ensures { result ≡ min (sizes.size (ty_view ty.now)) (2 ^ 64 - 1) }
+{
+    match ty {
+        Ty::Int | Ty::Bool | Ty::Qubit => 1,
+        Ty::Tuple(items) => total_size(items).saturating_add(1),
+        Ty::Struct(_, fields) => total_field_size(fields).saturating_add(1),
+    }
+}
+
+#[cycle(size)]
+fn total_size(items: &[Ty]) -> u64
+    ensures { result ≡ min (sizes.total_size (tys_of (map ty_view items.now))) (2 ^ 64 - 1) }
+{
+    let mut total: u64 = 0;
+    for item in items {
+        total = total.saturating_add(size(item));
+    }
+    total
+}
+
+#[cycle(size)]
+fn total_field_size(fields: &[Field]) -> u64
+    ensures { result ≡ min (sizes.total_field_size (fields_of (map field_view fields.now))) (2 ^ 64 - 1) }
+{
+    let mut total: u64 = 0;
+    for field in fields {
+        total = total.saturating_add(size(&field.ty));
+    }
+    total
+}
+
+/// How many leaves a place of the type has: those of its fields together for a struct, else 1; 2^64 - 1 where that is
+/// less. Takes no memory.
+#[cycle(leaf_count)]
+pub fn leaf_count(ty: &Ty) -> u64
+    ensures { result ≡ min (length (leaves (ty_view ty.now))) (2 ^ 64 - 1) }
+{
+    match ty {
+        Ty::Struct(_, fields) => field_leaf_count(fields),
+        _ => 1,
+    }
+}
+
+#[cycle(leaf_count)]
+fn field_leaf_count(fields: &[Field]) -> u64
+    ensures { result ≡ min (length (field_leaves (fields_of (map field_view fields.now)))) (2 ^ 64 - 1) }
+{
+    let mut total: u64 = 0;
+    for field in fields {
+        total = total.saturating_add(leaf_count(&field.ty));
+    }
+    total
+}

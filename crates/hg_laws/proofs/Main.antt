@@ -1,5 +1,5 @@
 -- The laws of whole runs.
-use Rattle.std.proofs.Common.{◌≡◌, ℕ, suc, [], refl}
+use Rattle.std.proofs.Common.{suc, []}
 use Rattle.hg_laws.specs.Laws.{RunsAreClean, PicksChangeNothing, BoundsSuffice, RunsUnfold, AnyReadyFirst}
 use Rattle.hg_graph.specs.Run.{no_note}
 use Rattle.hg_laws.proofs.Flow.{partway_sound}

@@ -1,14 +1,14 @@
 -- What holds of all runs.
 use Rattle.std.specs.Prelude.{◌≡◌, ℕ, suc, ◌<◌, ◌≤◌, Bool, true, false, List, [], ◌∷◌, length}
 use Rattle.gp_base.specs.Clean.{IsCleanBetween, world_after}
-use Rattle.gp_base.specs.Run.{Run, Returned, ◌>>=◌}
+use Rattle.gp_base.specs.Run.{Returned, ◌>>=◌}
 use Rattle.gp_base.specs.World.{World, start, is_live}
 use Rattle.hg_ops.specs.GraphType.{GraphType, is_linear}
 use Rattle.hg_ops.specs.Op.{Types, FuncDefn, is_dataflow_container}
 use Rattle.hg_graph.specs.Graph.{Graph, In, op_at}
-use Rattle.hg_graph.specs.Moments.{Moment, HasOnePlace, EachMoment, IsProper, ReturnsItsQubits, EndsWell, IsPartway, noted_run, notes_of}
+use Rattle.hg_graph.specs.Moments.{HasOnePlace, EachMoment, IsProper, ReturnsItsQubits, EndsWell, IsPartway, noted_run, notes_of}
 use Rattle.hg_graph.specs.Ordered.{IsOrdered}
-use Rattle.hg_graph.specs.Run.{Fired, Open, outs_at, Ready, ready, State, Note, no_note, fire, firings, enter_op, level, resume, runs, world_out, graph_run}
+use Rattle.hg_graph.specs.Run.{Fired, Open, outs_at, Ready, ready, State, no_note, fire, firings, enter_op, level, resume, runs, world_out, graph_run}
 use Rattle.hg_graph.specs.Valid.{Rule, IsValid, IsBroken, HasBoundary}
 use Rattle.hg_graph.specs.Value.{Value}
 

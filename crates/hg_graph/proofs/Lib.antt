@@ -1,3 +1,4 @@
+pub mod Pushed
 pub mod Readers
 mod Samples
 mod ThinNumbers

@@ -1,5 +1,8 @@
 pub mod Graph
+pub mod GraphIndex
 pub mod Moments
+pub mod NodeIndex
+pub mod NodeIndexView
 pub mod NodeView
 pub mod Ordered
 pub mod Rules

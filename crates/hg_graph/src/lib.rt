@@ -6,6 +6,9 @@
 pub mod graph;
 pub mod laws;
 pub mod link;
+mod node_index;
+mod numbers;
+mod ports;
 
 pub use graph::{Graph, Node, Nodes};
 pub use laws::{thin_graphs_are_linked, thin_graphs_run};

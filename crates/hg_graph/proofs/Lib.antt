@@ -1,5 +1,6 @@
 pub mod Pushed
 pub mod Readers
+pub mod Updates
 mod Samples
 mod ThinNumbers
 mod ThinLinks

@@ -4,6 +4,7 @@
 #![tactic(auto)]
 
 pub mod graph;
+mod indexes;
 pub mod laws;
 pub mod link;
 mod node_index;

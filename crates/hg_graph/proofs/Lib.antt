@@ -1,3 +1,5 @@
+pub mod IndexedLinks
+pub mod LinkNumbers
 pub mod Pushed
 pub mod Readers
 pub mod Updates

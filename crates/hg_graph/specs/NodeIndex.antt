@@ -63,7 +63,7 @@ input_count g n = length (input_ports (op_at g n))
 abbrev pub output_count : Graph → ℕ → ℕ
 output_count g n = length (output_ports (op_at g n))
 
-pub node_index : Graph → ℕ → NodeIndex
+unfoldable pub node_index : Graph → ℕ → NodeIndex
 node_index g n = record {
   children = children g n;
   inputs = map (λ p. numbers_into g.links (record { node = n; index = p })) (numbers 0 (input_count g n));

@@ -1,4 +1,5 @@
 pub mod IndexedLinks
+pub mod IndexedNodes
 pub mod LinkNumbers
 pub mod Pushed
 pub mod Readers

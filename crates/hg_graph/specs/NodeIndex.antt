@@ -1,6 +1,6 @@
 -- What a graph keeps of each node beside its lists.
-use Rattle.std.specs.Prelude.{ℕ, zero, suc, Bool, false, not, ◌&&◌, ◌==◌, nat_lt, if◌then◌else◌, List, [], ◌∷◌, ◌++◌, length, map, filter}
-use Rattle.hg_ops.specs.Op.{input_ports, output_ports}
+use Rattle.std.specs.Prelude.{ℕ, zero, suc, Bool, false, not, ◌&&◌, ◌==◌, nat_lt, if◌then◌else◌, List, [], ◌∷◌, ◌++◌, length, map, filter, replicate}
+use Rattle.hg_ops.specs.Op.{Op, input_ports, output_ports}
 use Rattle.hg_graph.specs.Graph.{Graph, Link, Ports, Order, Port, op_at, children, numbers, is_port}
 
 -- Links are numbered by their places in the list. A node has its children, the numbers of the links at each of its
@@ -99,3 +99,14 @@ with_before k i = record i { before = i.before ++ k ∷ [] }
 
 abbrev pub with_after : ℕ → NodeIndex → NodeIndex
 with_after k i = record i { after = i.after ++ k ∷ [] }
+
+-- that of a node without children and links
+abbrev pub fresh_index : Op → NodeIndex
+fresh_index op = record {
+  children = [];
+  inputs = replicate (length (input_ports op)) [];
+  outputs = replicate (length (output_ports op)) [];
+  before = [];
+  after = [];
+  strays = [];
+}

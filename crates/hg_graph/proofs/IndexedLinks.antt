@@ -42,11 +42,11 @@ module _ (g : Graph) (a b : Port) where
   output_done : (n : ℕ) (indexes : List NodeIndex) → slice_get indexes n ≡ Some (node_index g n) → slice_get (updated a.node (with_output a.index count) indexes) n ≡ Some (half n)
   unfolding half node_index
   output_done n indexes is = elim (eqb_tells a.node n) [
-      inl e ↦ subst (λ m. slice_get (updated m (with_output a.index count) indexes) n ≡ Some (half n)) (sym e.1)
-          (get-updated_same n (with_output a.index count) indexes (node_index g n) is
-          ∙ ap (λ (ls : List (List ℕ)). Some (record (node_index g n) { outputs = ls })) (sym (outputs-pushed g.links a b n (output_count g n) e.1)))
+    | inl e ↦ subst (λ m. slice_get (updated m (with_output a.index count) indexes) n ≡ Some (half n)) (sym e.1)
+        (get-updated_same n (with_output a.index count) indexes (node_index g n) is
+        ∙ ap (λ (ls : List (List ℕ)). Some (record (node_index g n) { outputs = ls })) (sym (outputs-pushed g.links a b n (output_count g n) e.1)))
     | inr e ↦ get-updated_other a.node n (with_output a.index count) indexes e.1 ∙ is
-          ∙ ap (λ (ls : List (List ℕ)). Some (record (node_index g n) { outputs = ls })) (sym (outputs-same g.links a b n (output_count g n) e.1))
+        ∙ ap (λ (ls : List (List ℕ)). Some (record (node_index g n) { outputs = ls })) (sym (outputs-same g.links a b n (output_count g n) e.1))
   ]
 
   -- what the code writes at the input is what the longer list of links has there
@@ -54,9 +54,9 @@ module _ (g : Graph) (a b : Port) where
   unfolding half node_index op_at children parent_at
   input_written n here =
       let many : length (map (λ p. numbers_into g.links (record { node = n; index = p })) (numbers 0 (input_count g n))) ≡ input_count g n =
-          length-map (numbers 0 (input_count g n)) _ ∙ length-numbers 0 (input_count g n) in
+      length-map (numbers 0 (input_count g n)) _ ∙ length-numbers 0 (input_count g n) in
       let strays : (if nat_lt b.index (length (half n).inputs) then (half n).strays else (half n).strays ++ Ports a b ∷ []) ≡ filter (is_stray n (input_count g n)) g'.links =
-          ap (λ c. if nat_lt b.index c then (half n).strays else (half n).strays ++ Ports a b ∷ []) many ∙ sym (strays-pushed g.links a b n (input_count g n) here) in
+      ap (λ c. if nat_lt b.index c then (half n).strays else (half n).strays ++ Ports a b ∷ []) many ∙ sym (strays-pushed g.links a b n (input_count g n) here) in
       λ i. record {
         children = children g n;
         inputs = sym (inputs-pushed g.links a b n (input_count g n) here) i;
@@ -79,8 +79,8 @@ module _ (g : Graph) (a b : Port) where
 
   input_done : (n : ℕ) (indexes : List NodeIndex) → slice_get indexes n ≡ Some (half n) → slice_get (updated b.node (with_input b.index (Ports a b) count) indexes) n ≡ Some (node_index g' n)
   input_done n indexes is = elim (eqb_tells b.node n) [
-      inl e ↦ subst (λ m. slice_get (updated m (with_input b.index (Ports a b) count) indexes) n ≡ Some (node_index g' n)) (sym e.1)
-          (get-updated_same n (with_input b.index (Ports a b) count) indexes (half n) is ∙ ap Some (input_written n e.1))
+    | inl e ↦ subst (λ m. slice_get (updated m (with_input b.index (Ports a b) count) indexes) n ≡ Some (node_index g' n)) (sym e.1)
+        (get-updated_same n (with_input b.index (Ports a b) count) indexes (half n) is ∙ ap Some (input_written n e.1))
     | inr e ↦ get-updated_other b.node n (with_input b.index (Ports a b) count) indexes e.1 ∙ is ∙ ap Some (input_other n e.1)
   ]
 
@@ -106,11 +106,11 @@ module _ (g : Graph) (a b : ℕ) where
   after_done : (n : ℕ) (indexes : List NodeIndex) → slice_get indexes n ≡ Some (node_index g n) → slice_get (updated a (with_after number) indexes) n ≡ Some (half_ordered n)
   unfolding half_ordered node_index
   after_done n indexes is = elim (eqb_tells a n) [
-      inl e ↦ subst (λ m. slice_get (updated m (with_after number) indexes) n ≡ Some (half_ordered n)) (sym e.1)
-          (get-updated_same n (with_after number) indexes (node_index g n) is
-          ∙ ap (λ (ks : List ℕ). Some (record (node_index g n) { after = ks })) (sym (numbers-more (is_order_from n) g.links (Order a b) e.0)))
+    | inl e ↦ subst (λ m. slice_get (updated m (with_after number) indexes) n ≡ Some (half_ordered n)) (sym e.1)
+        (get-updated_same n (with_after number) indexes (node_index g n) is
+        ∙ ap (λ (ks : List ℕ). Some (record (node_index g n) { after = ks })) (sym (numbers-more (is_order_from n) g.links (Order a b) e.0)))
     | inr e ↦ get-updated_other a n (with_after number) indexes e.1 ∙ is
-          ∙ ap (λ (ks : List ℕ). Some (record (node_index g n) { after = ks })) (sym (numbers-other (is_order_from n) g.links (Order a b) e.0))
+        ∙ ap (λ (ks : List ℕ). Some (record (node_index g n) { after = ks })) (sym (numbers-other (is_order_from n) g.links (Order a b) e.0))
   ]
 
   -- no port has an order link
@@ -131,8 +131,8 @@ module _ (g : Graph) (a b : ℕ) where
   before_done : (n : ℕ) (indexes : List NodeIndex) → slice_get indexes n ≡ Some (half_ordered n) → slice_get (updated b (with_before number) indexes) n ≡ Some (node_index h n)
   unfolding half_ordered node_index
   before_done n indexes is = elim (eqb_tells b n) [
-      inl e ↦ subst (λ m. slice_get (updated m (with_before number) indexes) n ≡ Some (node_index h n)) (sym e.1)
-          (get-updated_same n (with_before number) indexes (half_ordered n) is ∙ ap Some (ordered n _ (numbers-more (is_order_into n) g.links (Order a b) e.0)))
+    | inl e ↦ subst (λ m. slice_get (updated m (with_before number) indexes) n ≡ Some (node_index h n)) (sym e.1)
+        (get-updated_same n (with_before number) indexes (half_ordered n) is ∙ ap Some (ordered n _ (numbers-more (is_order_into n) g.links (Order a b) e.0)))
     | inr e ↦ get-updated_other b n (with_before number) indexes e.1 ∙ is ∙ ap Some (ordered n _ (numbers-other (is_order_into n) g.links (Order a b) e.0))
   ]
 

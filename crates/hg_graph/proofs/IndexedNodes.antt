@@ -6,7 +6,7 @@ use Rattle.std.proofs.lemmas.Bool.Decides.{eqb_tells}
 use Rattle.hg_ops.specs.Op.{Op, input_ports, output_ports}
 use Rattle.hg_graph.specs.Graph.{Graph, Node, Link, Ports, Order, Port, In, LinkIsWithin, IsGraph, numbers, op_of, op_at, parent_of, parent_at, children}
 use Rattle.hg_graph.specs.NodeIndex.{NodeIndex, node_index, input_count, output_count, numbers_into, numbers_from, orders_into, orders_from, is_into, is_from, is_stray, is_order_into, is_order_from, with_child, fresh_index}
-use Rattle.hg_graph.specs.GraphIndex.{IsIndexed, updated}
+use Rattle.hg_graph.specs.GraphIndex.{IsIndexed, IsFilled, index_below, updated}
 use Rattle.hg_graph.proofs.LinkNumbers.{eqb-self, eqb-other, and-false, map-same, map-copies, numbers-none}
 use Rattle.hg_graph.proofs.Updates.{length-updated, get-updated_same, get-updated_other}
 
@@ -85,7 +85,7 @@ module _ (g : Graph) (node : Node) (is : IsGraph g) (parent_in : node.parent < l
   IsGraph-grown = record {
     some = omega (arith, length_grown);
     parents = λ n within. elim (below n within) [
-        inl old ↦ omega (arith, length_grown, old_parent n old, is.parents n old)
+      | inl old ↦ omega (arith, length_grown, old_parent n old, is.parents n old)
       | inr new ↦ subst (λ m. parent_at g' m < length g'.nodes) (sym new) (omega (arith, length_grown, new_parent))
     ];
     links = λ link i. wider link (is.links link i);
@@ -106,7 +106,7 @@ module _ (g : Graph) (node : Node) (is : IsGraph g) (parent_in : node.parent < l
       ∙ ap (filter (is_child g' c)) (numbers-next count)
       ∙ filter-append (is_child g' c) (numbers 0 count) (count ∷ [])
       ∙ ap (λ ks. ks ++ (if is_child g' c count then count ∷ [] else []))
-        (filter-same (is_child g' c) (is_child g c) 0 count (λ p short. let within : p < count = omega (arith, short) in ap (λ q. q == c && not (p == c)) (old_parent p within)))
+      (filter-same (is_child g' c) (is_child g c) 0 count (λ p short. let within : p < count = omega (arith, short) in ap (λ q. q == c && not (p == c)) (old_parent p within)))
 
   child_test : (c : ℕ) → c < count → is_child g' c count ≡ (node.parent == c)
   child_test c within =
@@ -139,8 +139,8 @@ module _ (g : Graph) (node : Node) (is : IsGraph g) (parent_in : node.parent < l
   old_done : (indexes : List NodeIndex) (n : ℕ) → n < count → slice_get indexes n ≡ Some (node_index g n) → slice_get (updated node.parent (with_child count) indexes) n ≡ Some (node_index g' n)
   unfolding node_index
   old_done indexes n within has = elim (eqb_tells node.parent n) [
-      inl e ↦ subst (λ m. slice_get (updated m (with_child count) indexes) n ≡ Some (node_index g' n)) (sym e.1)
-          (get-updated_same n (with_child count) indexes (node_index g n) has ∙ ap Some (with_children n _ within (children_of_parent n within e.0)))
+    | inl e ↦ subst (λ m. slice_get (updated m (with_child count) indexes) n ≡ Some (node_index g' n)) (sym e.1)
+        (get-updated_same n (with_child count) indexes (node_index g n) has ∙ ap Some (with_children n _ within (children_of_parent n within e.0)))
     | inr e ↦ get-updated_other node.parent n (with_child count) indexes e.1 ∙ has ∙ ap Some (with_children n _ within (children_of_other n within e.0))
   ]
 
@@ -171,7 +171,7 @@ module _ (g : Graph) (node : Node) (is : IsGraph g) (parent_in : node.parent < l
     where
       none : (p : ℕ) → p < 0 + suc count → is_child g' count p ≡ false
       none p short = elim (eqb_tells p count) [
-          inl e ↦ and-false (parent_at g' p == count) (not (p == count)) (ap not e.0)
+        | inl e ↦ and-false (parent_at g' p == count) (not (p == count)) (ap not e.0)
         | inr e ↦
             let ne = e.1 in
             let within : p < count = omega arith in
@@ -194,6 +194,7 @@ module _ (g : Graph) (node : Node) (is : IsGraph g) (parent_in : node.parent < l
       inputs =
           map-copies _ [] 0 (input_count g' count) (λ p. numbers-none (is_into (record { node = count; index = p })) 0 g.links (λ link j. into_none p link (is.links link j)))
           ∙ ap (λ op. replicate (length (input_ports op)) []) new_op
+
       outputs : map (λ p. numbers_from g.links (record { node = count; index = p })) (numbers 0 (output_count g' count)) ≡ replicate (length (output_ports node.op)) []
       outputs =
           map-copies _ [] 0 (output_count g' count) (λ p. numbers-none (is_from (record { node = count; index = p })) 0 g.links (λ link j. from_none p link (is.links link j)))
@@ -210,21 +211,13 @@ module _ (g : Graph) (node : Node) (is : IsGraph g) (parent_in : node.parent < l
     graph = IsGraph-grown;
     count = omega (arith, length-append (changed indexes) (fresh_index node.op ∷ []), many indexes fits, length_grown);
     each = λ n within. elim (below n within) [
-        inl old ↦ get-append_within (changed indexes) (fresh_index node.op) n (subst (λ c. n < c) (sym (many indexes fits)) old) ∙ old_done indexes n old (fits.each n old)
+      | inl old ↦ get-append_within (changed indexes) (fresh_index node.op) n (subst (λ c. n < c) (sym (many indexes fits)) old) ∙ old_done indexes n old (fits.each n old)
       | inr new ↦ subst (λ m. slice_get (changed indexes ++ fresh_index node.op ∷ []) m ≡ Some (node_index g' m)) (sym new)
           (ap (slice_get (changed indexes ++ fresh_index node.op ∷ [])) (sym (many indexes fits)) ∙ get-append_end (changed indexes) (fresh_index node.op) ∙ ap Some (sym new_index))
     ];
   }
 
 -- ---- a graph of nodes, whose children are written down one after another
-
--- what is kept of node c, with only the children below n
-abbrev pub index_below : Graph → ℕ → ℕ → NodeIndex
-index_below g n c = record (node_index g c) { children = filter (λ m. parent_at g m == c && not (m == c)) (numbers 0 n) }
-
-pub record IsFilled (g : Graph) (n : ℕ) (indexes : List NodeIndex) : Type 0 where
-  pub count : length indexes ≡ length g.nodes
-  pub each : (c : ℕ) → c < length g.nodes → slice_get indexes c ≡ Some (index_below g n c)
 
 module _ (nodes : List Node) where
   abbrev bare : Graph
@@ -281,7 +274,7 @@ module _ (nodes : List Node) where
     where
       none : (c : ℕ) → (parent_at bare n == c && not (n == c)) ≡ false
       none c = elim (eqb_tells n c) [
-          inl e ↦ and-false (parent_at bare n == c) (not (n == c)) (ap not e.0)
+        | inl e ↦ and-false (parent_at bare n == c) (not (n == c)) (ap not e.0)
         | inr e ↦ ap (λ p. p == c && not (n == c)) own ∙ ap (λ t. t && not (n == c)) e.0
       ]
 
@@ -289,10 +282,10 @@ module _ (nodes : List Node) where
   IsFilled-child n indexes fits other = record {
     count = length-updated (parent_at bare n) (with_child n) indexes ∙ fits.count;
     each = λ c within. elim (eqb_tells (parent_at bare n) c) [
-        inl e ↦ subst (λ m. slice_get (updated m (with_child n) indexes) c ≡ Some (index_below bare (suc n) c)) (sym e.1)
-            (get-updated_same c (with_child n) indexes (index_below bare n c) (fits.each c within) ∙ ap Some (with_next n c true (is_child c e.0 e.1)))
+      | inl e ↦ subst (λ m. slice_get (updated m (with_child n) indexes) c ≡ Some (index_below bare (suc n) c)) (sym e.1)
+          (get-updated_same c (with_child n) indexes (index_below bare n c) (fits.each c within) ∙ ap Some (with_next n c true (is_child c e.0 e.1)))
       | inr e ↦ get-updated_other (parent_at bare n) c (with_child n) indexes e.1 ∙ fits.each c within
-            ∙ ap Some (unchanged n c (ap (λ t. t && not (n == c)) e.0))
+          ∙ ap Some (unchanged n c (ap (λ t. t && not (n == c)) e.0))
     ];
   }
     where

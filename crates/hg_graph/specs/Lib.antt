@@ -7,6 +7,7 @@ pub mod NodeView
 pub mod Ordered
 pub mod Rules
 pub mod Run
+pub mod Sources
 pub mod Thin
 pub mod Valid
 pub mod Value

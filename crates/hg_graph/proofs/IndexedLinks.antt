@@ -1,13 +1,13 @@
 -- What is kept of the nodes fits the graph after a link was added.
-use Rattle.std.proofs.Common.{◌≡◌, ◌≢◌, ◌<◌, ◌≤◌, ◌+◌, ◌++◌, ◌∷◌, ◌∙◌, ◌==◌, [], inl, inr, ◌⊎◌, ℕ, zero, suc, Bool, true, false, if◌then◌else◌, nat_lt, List, Some, length, map, filter, slice_get, refl, sym, ap, ap₂, subst, arith}
+use Rattle.std.proofs.Common.{◌≡◌, ◌≢◌, ◌<◌, ◌++◌, ◌∷◌, ◌∙◌, [], inl, inr, ◌⊎◌, ℕ, if◌then◌else◌, nat_lt, List, Some, length, map, filter, slice_get, refl, sym, ap, subst}
 use Rattle.std.proofs.lemmas.List.{length-map}
 use Rattle.std.proofs.lemmas.List.Elements.{filter-append}
 use Rattle.std.proofs.lemmas.List.{append-nil}
 use Rattle.std.proofs.lemmas.Bool.Decides.{eqb_tells}
 use Rattle.hg_graph.specs.Graph.{Graph, Link, Ports, Order, Port, In, LinkIsWithin, IsGraph, numbers, op_at, parent_at, children}
-use Rattle.hg_graph.specs.NodeIndex.{NodeIndex, node_index, input_count, output_count, numbers_into, numbers_from, orders_into, orders_from, is_into, is_from, is_stray, is_order_into, is_order_from, pushed_at, with_input, with_output, with_before, with_after}
+use Rattle.hg_graph.specs.NodeIndex.{NodeIndex, node_index, input_count, output_count, numbers_into, numbers_from, orders_into, orders_from, is_into, is_from, is_stray, is_order_into, is_order_from, with_input, with_output, with_before, with_after}
 use Rattle.hg_graph.specs.GraphIndex.{IsIndexed, updated, with_ports, with_order}
-use Rattle.hg_graph.proofs.LinkNumbers.{eqb-self, eqb-other, length-numbers, map-same, numbers-other, numbers-more, inputs-same, inputs-pushed, outputs-same, outputs-pushed, strays-same, strays-pushed}
+use Rattle.hg_graph.proofs.LinkNumbers.{length-numbers, map-same, numbers-other, numbers-more, inputs-same, inputs-pushed, outputs-same, outputs-pushed, strays-same, strays-pushed}
 use Rattle.hg_graph.proofs.Updates.{length-updated, get-updated_same, get-updated_other}
 
 -- the graph with a link more
@@ -142,3 +142,16 @@ module _ (g : Graph) (a b : ℕ) where
     count = length-updated b _ _ ∙ length-updated a _ indexes ∙ is.count;
     each = λ n within. before_done n _ (after_done n indexes (is.each n within));
   }
+
+-- what the code wrote, by what it wrote
+pub ports_in_step : (g : Graph) (a b : Port) (links : List Link) (k : ℕ) (indexes now : List NodeIndex) → IsIndexed g indexes → a.node < length g.nodes → b.node < length g.nodes
+    → links ≡ g.links ++ Ports a b ∷ [] → k ≡ length g.links → now ≡ with_ports a b k indexes → IsIndexed (record g { links = links }) now
+ports_in_step g a b links k indexes now fits from_in to_in more last written =
+    subst (λ (ls : List Link). IsIndexed (record g { links = ls }) now) (sym more)
+    (subst (IsIndexed (linked g (Ports a b))) (sym (written ∙ ap (λ j. with_ports a b j indexes) last)) (IsIndexed-ports g a b indexes fits from_in to_in))
+
+pub order_in_step : (g : Graph) (a b : ℕ) (links : List Link) (k : ℕ) (indexes now : List NodeIndex) → IsIndexed g indexes → a < length g.nodes → b < length g.nodes
+    → links ≡ g.links ++ Order a b ∷ [] → k ≡ length g.links → now ≡ with_order a b k indexes → IsIndexed (record g { links = links }) now
+order_in_step g a b links k indexes now fits from_in to_in more last written =
+    subst (λ (ls : List Link). IsIndexed (record g { links = ls }) now) (sym more)
+    (subst (IsIndexed (linked g (Order a b))) (sym (written ∙ ap (λ j. with_order a b j indexes) last)) (IsIndexed-order g a b indexes fits from_in to_in))

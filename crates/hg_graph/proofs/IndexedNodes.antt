@@ -1,13 +1,13 @@
 -- What is kept of the nodes fits the graph after a node was added.
-use Rattle.std.proofs.Common.{◌≡◌, ◌≢◌, ◌<◌, ◌≤◌, ◌+◌, ◌++◌, ◌∷◌, ◌∙◌, ◌==◌, ◌&&◌, [], inl, inr, ◌⊎◌, ℕ, zero, suc, Bool, true, false, if◌then◌else◌, not, nat_lt, List, Some, length, map, filter, slice_get, replicate, refl, sym, ap, ap₂, subst, arith, zero-add}
+use Rattle.std.proofs.Common.{◌≡◌, ◌≢◌, ◌<◌, ◌+◌, ◌++◌, ◌∷◌, ◌∙◌, ◌==◌, ◌&&◌, [], inl, inr, ◌⊎◌, ℕ, zero, suc, Bool, true, false, if◌then◌else◌, not, nat_lt, List, Some, length, map, filter, slice_get, replicate, refl, sym, ap, ap₂, subst, arith, zero-add}
 use Rattle.std.proofs.lemmas.List.{length-append, length-map, append-nil}
 use Rattle.std.proofs.lemmas.List.Elements.{filter-append}
 use Rattle.std.proofs.lemmas.Bool.Decides.{eqb_tells}
-use Rattle.hg_ops.specs.Op.{Op, input_ports, output_ports}
-use Rattle.hg_graph.specs.Graph.{Graph, Node, Link, Ports, Order, Port, In, LinkIsWithin, IsGraph, numbers, op_of, op_at, parent_of, parent_at, children}
+use Rattle.hg_ops.specs.Op.{input_ports, output_ports}
+use Rattle.hg_graph.specs.Graph.{Graph, Node, Link, Ports, Order, In, LinkIsWithin, IsGraph, numbers, op_of, op_at, parent_of, parent_at, children}
 use Rattle.hg_graph.specs.NodeIndex.{NodeIndex, node_index, input_count, output_count, numbers_into, numbers_from, orders_into, orders_from, is_into, is_from, is_stray, is_order_into, is_order_from, with_child, fresh_index}
 use Rattle.hg_graph.specs.GraphIndex.{IsIndexed, IsFilled, index_below, updated}
-use Rattle.hg_graph.proofs.LinkNumbers.{eqb-self, eqb-other, and-false, map-same, map-copies, numbers-none}
+use Rattle.hg_graph.proofs.LinkNumbers.{eqb-other, and-false, map-copies, numbers-none}
 use Rattle.hg_graph.proofs.Updates.{length-updated, get-updated_same, get-updated_other}
 
 -- ---- lists with one entry more
@@ -295,3 +295,11 @@ module _ (nodes : List Node) where
   pub IsIndexed-filled : (indexes : List NodeIndex) → IsGraph bare → IsFilled bare (length nodes) indexes → IsIndexed bare indexes
   unfolding node_index children
   IsIndexed-filled indexes is fits = record { graph = is; count = fits.count; each = fits.each }
+
+-- what the code wrote, by what it wrote
+pub node_in_step : (g : Graph) (node : Node) (nodes : List Node) (k : ℕ) (fresh_node : NodeIndex) (indexes now : List NodeIndex) → IsIndexed g indexes → node.parent < length g.nodes
+    → nodes ≡ g.nodes ++ node ∷ [] → k ≡ length g.nodes → fresh_node ≡ fresh_index node.op → now ≡ updated node.parent (with_child k) indexes ++ fresh_node ∷ []
+    → IsIndexed (record g { nodes = nodes }) now
+node_in_step g node nodes k fresh_node indexes now fits parent_in more last is_fresh written =
+    subst (λ (ns : List Node). IsIndexed (record g { nodes = ns }) now) (sym more)
+    (subst (IsIndexed (grown g node)) (sym (written ∙ ap₂ (λ j i. updated node.parent (with_child j) indexes ++ i ∷ []) last is_fresh)) (IsIndexed-grown g node fits.graph parent_in indexes fits))

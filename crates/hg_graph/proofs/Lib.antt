@@ -1,3 +1,4 @@
+pub mod Filled
 pub mod IndexedLinks
 pub mod IndexedNodes
 pub mod LinkNumbers

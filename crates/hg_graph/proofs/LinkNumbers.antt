@@ -1,10 +1,10 @@
 -- The numbers of links, by port, as links are added.
-use Rattle.std.proofs.Common.{◌≡◌, ◌≢◌, ◌<◌, ◌≤◌, ◌+◌, ◌++◌, ◌∷◌, ◌∙◌, ◌==◌, ◌&&◌, [], inl, inr, ℕ, zero, suc, Bool, true, false, if◌then◌else◌, not, nat_lt, List, length, map, filter, replicate, refl, sym, ap, ap₂, subst, arith, add-zero, zero-add}
-use Rattle.std.proofs.lemmas.List.{append-nil, length-map}
+use Rattle.std.proofs.Common.{◌≡◌, ◌≢◌, ◌≤◌, ◌+◌, ◌++◌, ◌∷◌, ◌∙◌, ◌==◌, ◌&&◌, [], inl, inr, ℕ, zero, suc, Bool, true, false, if◌then◌else◌, not, nat_lt, List, length, map, filter, replicate, refl, sym, ap, ap₂, subst, arith, add-zero, zero-add}
+use Rattle.std.proofs.lemmas.List.{append-nil}
 use Rattle.std.proofs.lemmas.List.Elements.{filter-append}
 use Rattle.std.proofs.lemmas.Bool.Decides.{eqb_tells}
-use Rattle.hg_graph.specs.Graph.{Graph, Link, Ports, Order, Port, In, LinkIsWithin, numbers, is_port}
-use Rattle.hg_graph.specs.NodeIndex.{numbers_where, numbers_into, numbers_from, is_into, is_from, is_stray, is_order_into, is_order_from, pushed_at}
+use Rattle.hg_graph.specs.Graph.{Link, Ports, Port, In, numbers}
+use Rattle.hg_graph.specs.NodeIndex.{numbers_where, numbers_into, numbers_from, is_into, is_from, is_stray, pushed_at}
 
 -- ---- tests of numbers
 

@@ -1,5 +1,5 @@
 -- A number that is written at the end of one of several lists, and taken back.
-use Rattle.std.proofs.Common.{◌≡◌, ◌<◌, ◌≤◌, ◌+◌, ◌++◌, ◌∷◌, ◌∙◌, [], ℕ, zero, suc, List, length, get_or, slice_set, refl, sym, ap, subst, arith, le-ltb}
+use Rattle.std.proofs.Common.{◌≡◌, ◌<◌, ◌≤◌, ◌++◌, ◌∷◌, ◌∙◌, [], ℕ, zero, suc, List, length, get_or, slice_set, refl, ap, subst, arith, le-ltb}
 use Rattle.hg_graph.specs.Graph.{Link}
 use Rattle.hg_graph.specs.NodeIndex.{NodeIndex, pushed_at, with_input}
 

@@ -1,5 +1,5 @@
 -- Changes of what is kept of one node.
-use Rattle.std.proofs.Common.{◌≡◌, ◌<◌, ◌≢◌, ◌++◌, ◌∷◌, ◌∙◌, [], ℕ, zero, suc, List, Some, length, slice_get, get_or, slice_set, refl, sym, ap, subst, arith}
+use Rattle.std.proofs.Common.{◌≡◌, ◌<◌, ◌≢◌, ◌∷◌, ◌∙◌, [], ℕ, zero, suc, List, Some, length, slice_get, get_or, slice_set, refl, ap, subst, arith}
 use Rattle.hg_graph.specs.NodeIndex.{NodeIndex}
 use Rattle.hg_graph.specs.GraphIndex.{updated}
 

@@ -1,6 +1,6 @@
 -- What a graph keeps beside its lists fits them.
 use Rattle.std.specs.Prelude.{◌≡◌, ◌<◌, ◌==◌, ◌&&◌, not, ℕ, zero, suc, List, [], ◌∷◌, length, filter, slice_get, Some}
-use Rattle.hg_graph.specs.Graph.{Graph, Port, Link, Ports, Order, IsGraph, numbers, parent_at}
+use Rattle.hg_graph.specs.Graph.{Graph, Port, Ports, IsGraph, numbers, parent_at}
 use Rattle.hg_graph.specs.NodeIndex.{NodeIndex, node_index, with_input, with_output, with_before, with_after}
 
 pub record IsIndexed (g : Graph) (indexes : List NodeIndex) : Type 0 where

@@ -192,7 +192,7 @@ impl Graph {
         if to.index >= index.input_count() {
             return first_source(index.strays(), to);
         }
-        source_at(&self.links, index.input(to.index).first().copied())
+        source_at(&self.links, index.first_input(to.index))
     }
 
     /// The number of a node's children: the other nodes whose parent it is.

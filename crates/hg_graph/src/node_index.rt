@@ -29,7 +29,7 @@ impl Model for NodeIndex {
 }
 
 impl NodeIndex {
-    ghost use Rattle.std.specs.Prelude.{◌≡◌, ◌<◌, ℕ, [], length, map, slice_index_or, replicate, IfOk, OnOk, OnErr};
+    ghost use Rattle.std.specs.Prelude.{◌≡◌, ◌<◌, ℕ, [], length, map, slice_get, slice_index_or, replicate, IfOk, OnOk, OnErr};
     ghost use Rattle.hg_graph.specs.NodeIndex as spec;
     ghost use Rattle.hg_graph.specs.View.{number_of, link_view};
 
@@ -132,6 +132,14 @@ impl NodeIndex {
         ensures { result.now ≡ slice_index_or self.now.inputs index [] }
     {
         self.inputs[index as usize].as_slice()
+    }
+
+    /// The number of the first link at an input.
+    pub(crate) fn first_input(&self, index: u64) -> Option<u64>
+        requires { index < length self.now.inputs }
+        ensures { result ≡ slice_get (slice_index_or self.now.inputs index []) 0 }
+    {
+        self.input(index).get(0).copied()
     }
 
     /// The numbers of the links at an output.

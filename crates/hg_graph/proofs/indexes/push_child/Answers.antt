@@ -1,4 +1,4 @@
-use Rattle.std.proofs.Common.{◌≡◌, arith}
+use Rattle.std.proofs.Common.{arith}
 use Rattle.hg_graph.proofs.Updates.{set-updated}
 use Rattle.hg_graph.proofs.indexes.push_child.Goals as goal
 

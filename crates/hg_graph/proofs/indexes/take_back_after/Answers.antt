@@ -1,4 +1,4 @@
-use Rattle.std.proofs.Common.{◌≡◌, arith}
+use Rattle.std.proofs.Common.{arith}
 use Rattle.hg_graph.proofs.Updates.{set_back-updated}
 use Rattle.hg_graph.proofs.indexes.take_back_after.Goals as goal
 

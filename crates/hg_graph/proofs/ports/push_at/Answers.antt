@@ -1,4 +1,4 @@
-use Rattle.std.proofs.Common.{◌≡◌, sym, arith}
+use Rattle.std.proofs.Common.{sym, arith}
 use Rattle.hg_graph.proofs.Pushed.{set-pushed_at, pushed_at-past}
 use Rattle.hg_graph.proofs.ports.push_at.Goals as goal
 

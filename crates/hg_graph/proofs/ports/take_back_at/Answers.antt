@@ -1,4 +1,4 @@
-use Rattle.std.proofs.Common.{◌≡◌, sym, arith}
+use Rattle.std.proofs.Common.{arith}
 use Rattle.hg_graph.proofs.Pushed.{taken_back, untouched}
 use Rattle.hg_graph.proofs.ports.take_back_at.Goals as goal
 

@@ -1,5 +1,5 @@
 -- The gates: their numbers of qubits and angles, and their ops.
-use Rattle.std.specs.Prelude.{◌≡◌, ℕ, List, [], ◌∷◌, ◌++◌, replicate}
+use Rattle.std.specs.Prelude.{◌≡◌, ℕ, List, ◌++◌, replicate}
 use Rattle.gp_base.specs.declared.event.GateName.{GateName}
 use Rattle.gp_base.specs.declared.event.GateName.TheVariants.{H, X, Y, Z, S, Sdg, T, Tdg, Cx, Cy, Cz, Toffoli, Rx, Ry, Rz}
 use Rattle.hg_ops.specs.GraphType.{GraphType, Int, Qubit}

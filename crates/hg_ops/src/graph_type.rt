@@ -72,7 +72,7 @@ impl Model for Rows {
 }
 
 impl Row {
-    ghost use Rattle.std.specs.Prelude.{◌≡◌, [], ◌∷◌, ◌++◌, length, slice_get, map, IfOk, OnOk, OnErr};
+    ghost use Rattle.std.specs.Prelude.{◌≡◌, ◌<◌, ◌^◌, [], ◌∷◌, ◌++◌, length, slice_get, map, IfOk, OnOk, OnErr};
     ghost use Rattle.std.specs.Option.{option_copied, option_map};
     ghost use Rattle.hg_ops.specs.GraphType.{row_of, row_linear};
     ghost use Rattle.hg_ops.specs.TypeView.{type_view};
@@ -86,9 +86,10 @@ impl Row {
         }
     }
 
-    /// The number of types.
+    /// The number of types, less than 2^63.
     pub fn len(&self) -> u64
-        ensures { result ≡ length self.now }
+        ensures len { result ≡ length self.now }
+        ensures few { result < 2 ^ 63 }
     {
         self.types.len() as u64
     }
@@ -153,7 +154,7 @@ impl Row {
 }
 
 impl Rows {
-    ghost use Rattle.std.specs.Prelude.{◌≡◌, [], ◌∷◌, ◌++◌, length, slice_get, IfOk, OnOk, OnErr};
+    ghost use Rattle.std.specs.Prelude.{◌≡◌, ◌<◌, ◌^◌, [], ◌∷◌, ◌++◌, length, slice_get, IfOk, OnOk, OnErr};
     ghost use Rattle.std.specs.Option.{option_copied};
     ghost use Rattle.hg_ops.specs.GraphType.{rows_of, rows_linear};
 
@@ -166,9 +167,10 @@ impl Rows {
         }
     }
 
-    /// The number of rows.
+    /// The number of rows, less than 2^63.
     pub fn len(&self) -> u64
-        ensures { result ≡ length self.now }
+        ensures len { result ≡ length self.now }
+        ensures few { result < 2 ^ 63 }
     {
         self.rows.len() as u64
     }

@@ -6,8 +6,10 @@ pub mod effect;
 pub mod ext_op;
 pub mod gate;
 pub mod graph_type;
+pub mod laws;
 pub mod linear;
 pub mod op_kind;
+pub mod ports;
 pub mod signatures;
 mod tables;
 
@@ -15,6 +17,11 @@ pub use effect::is_effect;
 pub use ext_op::{ExtOp, name_of, op_of_name};
 pub use gate::{Gate, gate_op};
 pub use graph_type::{GraphType, Row, Rows};
+pub use laws::{gates_keep_their_qubits, op_names_are_distinct};
 pub use linear::is_linear;
 pub use op_kind::OpKind;
+pub use ports::{input_count, output_count};
 pub use signatures::signature;
+
+#[cfg(test)]
+mod tests;

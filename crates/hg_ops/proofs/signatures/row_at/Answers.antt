@@ -1,4 +1,4 @@
-use Rattle.std.proofs.Common.{◌≡◌, [], ap, ◌∙◌, unwrap_or}
+use Rattle.std.proofs.Common.{[], ap, ◌∙◌, unwrap_or}
 use Rattle.std.proofs.lemmas.Option.{unwrap_or-slice_get}
 use Rattle.hg_ops.proofs.signatures.row_at.Goals as goal
 

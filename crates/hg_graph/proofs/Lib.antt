@@ -1,4 +1,10 @@
+pub mod Filled
+pub mod IndexedLinks
+pub mod IndexedNodes
+pub mod LinkNumbers
+pub mod Pushed
 pub mod Readers
+pub mod Updates
 mod Samples
 mod ThinNumbers
 mod ThinLinks

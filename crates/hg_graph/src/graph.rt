@@ -3,9 +3,13 @@
 #[cfg(test)]
 mod tests;
 
+use crate::filling::indexes_of;
+use crate::indexes::{push_node, push_order, push_ports};
 use crate::link::{Link, NodeId, Port};
+use crate::node_index::NodeIndex;
+use crate::sources::{first_source, source_at};
 use gp_base::Sequence;
-use hg_ops::OpKind;
+use hg_ops::{OpKind, input_count, output_count};
 use std::alloc::{AllocError, Global};
 use std::marker::Model;
 
@@ -22,11 +26,13 @@ pub struct Node {
 pub type Nodes = Sequence<Node>;
 
 /// A program graph that grows: nodes are numbered in the order in which they are added. A contract sees
-/// it as the list of its nodes and the list of its links.
+/// it as the list of its nodes and the list of its links. Beside them it keeps the children of each node and the links
+/// at each of its ports, so that a look-up takes the same time in a large graph as in a small one.
 #[derive(Debug, Drop)]
 pub struct Graph {
     nodes: Vec<Node>,
     links: Vec<Link>,
+    indexes: Vec<NodeIndex>,
 }
 
 impl Model for Graph {
@@ -39,17 +45,21 @@ impl Model for Graph {
 
     ghost coded = { Prim.hlevel (codes, coded_type) };
 
-    ghost use Rattle.hg_graph.specs.NodeView.{graph_view};
+    ghost use Rattle.hg_graph.specs.NodeView.{graph_view, IsInStep};
 
     ghost view = { graph_view };
+
+    ghost invariant = { IsInStep };
 }
 
 impl Graph {
     ghost use Rattle.std.specs.Prelude.{◌≡◌, ◌<◌, ◌==◌, ◌&&◌, not, [], ◌∷◌, ◌++◌, length, slice_get, map, All, IfOk, OnOk, OnErr};
     ghost use Rattle.std.specs.Option.{option_map};
     ghost use Rattle.hg_ops.specs.Op as op;
+    ghost use Rattle.hg_ops.specs.Op.{input_ports, output_ports};
     ghost use Rattle.hg_ops.specs.OpView.{op_view};
-    ghost use Rattle.hg_graph.specs.Graph.{Ports, Order, op_at, parent_at, children, feeder};
+    ghost use Rattle.hg_graph.specs.Graph.{Ports, Order, IsGraph, op_at, parent_at, children, feeder};
+    ghost use Rattle.hg_graph.specs.NodeIndex.{node_index, numbers_into, numbers_from, orders_into, orders_from};
     ghost use Rattle.hg_graph.specs.NodeView.{node_view};
     ghost use Rattle.hg_graph.specs.View.{number_of, port_view, link_view};
 
@@ -62,9 +72,11 @@ impl Graph {
             op: OpKind::Module,
             parent: NodeId(0),
         })?;
+        let indexes = indexes_of(alloc, &nodes)?;
         Ok(Graph {
             nodes,
             links: Vec::new(alloc),
+            indexes,
         })
     }
 
@@ -75,9 +87,12 @@ impl Graph {
         requires parents_in { All (λ node. node.parent.0 < length nodes) nodes }
         ensures { IfOk result (λ g. g ≡ record { nodes = map node_view nodes; links = [] }) }
     {
+        let nodes = nodes.into_vec();
+        let indexes = indexes_of(alloc, &nodes)?;
         Ok(Graph {
-            nodes: nodes.into_vec(),
+            nodes,
             links: Vec::new(alloc),
+            indexes,
         })
     }
 
@@ -90,6 +105,10 @@ impl Graph {
         ensures err { OnErr result (self.new ≡ self.old) }
     {
         let number = NodeId(self.nodes.len() as u64);
+        let alloc = *self.nodes.allocator();
+        let index = NodeIndex::new(alloc, input_count(&op), output_count(&op))?;
+        self.nodes.reserve(1)?;
+        push_node(&mut self.indexes, parent, index)?;
         self.nodes.push(Node { op, parent })?;
         Ok(number)
     }
@@ -101,6 +120,9 @@ impl Graph {
         ensures ok { OnOk result (self.new ≡ record self.old { links = self.old.links ++ Ports (port_view from) (port_view to) ∷ [] }) }
         ensures err { OnErr result (self.new ≡ self.old) }
     {
+        let number = self.links.len() as u64;
+        self.links.reserve(1)?;
+        push_ports(&mut self.indexes, from, to, number)?;
         self.links.push(Link::Ports(from, to))?;
         Ok(())
     }
@@ -112,13 +134,17 @@ impl Graph {
         ensures ok { OnOk result (self.new ≡ record self.old { links = self.old.links ++ Order from.0 to.0 ∷ [] }) }
         ensures err { OnErr result (self.new ≡ self.old) }
     {
+        let number = self.links.len() as u64;
+        self.links.reserve(1)?;
+        push_order(&mut self.indexes, from, to, number)?;
         self.links.push(Link::Order(from, to))?;
         Ok(())
     }
 
-    /// The number of nodes.
+    /// The number of nodes, at least 1. All parents and all nodes of links are below it.
     pub fn node_count(&self) -> u64
-        ensures { result ≡ length self.now.nodes }
+        ensures count { result ≡ length self.now.nodes }
+        ensures graph { IsGraph self.now }
     {
         self.nodes.len() as u64
     }
@@ -159,35 +185,85 @@ impl Graph {
     pub fn feeder(&self, to: Port) -> Option<Port>
         ensures { option_map port_view result ≡ feeder self.now.links (port_view to) }
     {
-        for link in &self.links {
-            if let Link::Ports(from, into) = *link
-                && into == to
-            {
-                return Some(from);
-            }
+        if to.node.0 >= self.nodes.len() as u64 {
+            return None;
         }
-        None
+        let index = self.index(to.node);
+        if to.index >= index.input_count() {
+            return first_source(index.strays(), to);
+        }
+        source_at(&self.links, index.first_input(to.index))
     }
 
     /// The number of a node's children: the other nodes whose parent it is.
+    #[tactic(auto, unfolding(crate::specs::NodeIndex::node_index))]
     pub fn child_count(&self, node: NodeId) -> u64
         requires { node.0 < length self.now.nodes }
         ensures { result ≡ length (children self.now node.0) }
     {
-        (0..self.node_count())
-            .filter(|n| self.is_child(NodeId(*n), node))
-            .count() as u64
+        self.index(node).children().len() as u64
     }
 
     /// A node's child at place `k`, counted from 0 in rising number; `None` exactly where it has no such child.
+    #[tactic(auto, unfolding(crate::specs::NodeIndex::node_index))]
     pub fn child(&self, node: NodeId, k: u64) -> Option<NodeId>
         requires { node.0 < length self.now.nodes }
         ensures { option_map number_of result ≡ slice_get (children self.now node.0) k }
     {
-        (0..self.node_count())
-            .filter(|n| self.is_child(NodeId(*n), node))
-            .nth(k as usize)
-            .map(NodeId)
+        self.index(node).children().get(k as usize).copied()
+    }
+
+    /// A node's children in rising number.
+    #[tactic(auto, unfolding(crate::specs::NodeIndex::node_index))]
+    pub fn children(&self, node: NodeId) -> &[NodeId]
+        requires { node.0 < length self.now.nodes }
+        ensures { map number_of result.now ≡ children self.now node.0 }
+    {
+        self.index(node).children()
+    }
+
+    /// The numbers of the links into an input port that its node has: their places in the list of links, in order.
+    pub fn links_into(&self, to: Port) -> &[u64]
+        requires node_in { to.node.0 < length self.now.nodes }
+        requires port_in { to.index < length (input_ports (op_at self.now to.node.0)) }
+        ensures { result.now ≡ numbers_into self.now.links (port_view to) }
+    {
+        self.index(to.node).input(to.index)
+    }
+
+    /// The numbers of the links out of an output port that its node has, in order.
+    pub fn links_from(&self, from: Port) -> &[u64]
+        requires node_in { from.node.0 < length self.now.nodes }
+        requires port_in { from.index < length (output_ports (op_at self.now from.node.0)) }
+        ensures { result.now ≡ numbers_from self.now.links (port_view from) }
+    {
+        self.index(from.node).output(from.index)
+    }
+
+    /// The numbers of the order links into a node, in order.
+    #[tactic(auto, unfolding(crate::specs::NodeIndex::node_index))]
+    pub fn orders_into(&self, node: NodeId) -> &[u64]
+        requires { node.0 < length self.now.nodes }
+        ensures { result.now ≡ orders_into self.now.links node.0 }
+    {
+        self.index(node).before()
+    }
+
+    /// The numbers of the order links out of a node, in order.
+    #[tactic(auto, unfolding(crate::specs::NodeIndex::node_index))]
+    pub fn orders_from(&self, node: NodeId) -> &[u64]
+        requires { node.0 < length self.now.nodes }
+        ensures { result.now ≡ orders_from self.now.links node.0 }
+    {
+        self.index(node).after()
+    }
+
+    // What is kept of a node.
+    fn index(&self, node: NodeId) -> &NodeIndex
+        requires { node.0 < length self.now.nodes }
+        ensures { result.now ≡ node_index self.now node.0 }
+    {
+        &self.indexes[node.0 as usize]
     }
 
     // The node with this number.
@@ -196,13 +272,5 @@ impl Graph {
         ensures { slice_get self.now.nodes node.0 ≡ Some (node_view result.now) }
     {
         &self.nodes[node.0 as usize]
-    }
-
-    // Whether a node is a child of another.
-    fn is_child(&self, node: NodeId, parent: NodeId) -> bool
-        requires { node.0 < length self.now.nodes }
-        ensures { result ≡ (parent_at self.now node.0 == parent.0 && not (node.0 == parent.0)) }
-    {
-        self.parent(node) == parent && node != parent
     }
 }

@@ -3,9 +3,15 @@
 //! one keeps and what its run is.
 #![tactic(auto)]
 
+mod filling;
 pub mod graph;
+mod indexes;
 pub mod laws;
 pub mod link;
+mod node_index;
+mod numbers;
+mod ports;
+mod sources;
 
 pub use graph::{Graph, Node, Nodes};
 pub use laws::{thin_graphs_are_linked, thin_graphs_run};

@@ -215,62 +215,68 @@ fn two_rows(alloc: Global) -> Result<Rows, AllocError> {
 #[test]
 fn plain_ops_have_their_rows(rt: HostRuntime) -> Result<(), Fail> {
     let alloc = rt.alloc();
-    let (ins, outs) = (pair(alloc)?, one(alloc, GraphType::Qubit)?);
-    let name = tag(alloc)?;
-    expect_rows(&rt, alloc, &OpKind::Module, "", "")?;
-    expect_rows(&rt, alloc, &OpKind::FuncDefn { name, ins, outs }, "", "")?;
-    expect_rows(&rt, alloc, &OpKind::Const { value: -1 }, "", "")?;
-    expect_rows(
-        &rt,
-        alloc,
-        &OpKind::Input {
-            types: pair(alloc)?,
-        },
-        "",
-        "iq",
-    )?;
-    expect_rows(
-        &rt,
-        alloc,
-        &OpKind::Output {
-            types: pair(alloc)?,
-        },
-        "iq",
-        "",
-    )?;
-    expect_rows(
-        &rt,
-        alloc,
-        &OpKind::ExitBlock {
-            types: pair(alloc)?,
-        },
-        "",
-        "",
-    )?;
-    expect_rows(
-        &rt,
-        alloc,
-        &OpKind::Unpack {
-            types: pair(alloc)?,
-        },
-        "(iq)",
-        "iq",
-    )?;
+    for (op, ins, outs) in [
+        (OpKind::Module, "", ""),
+        (OpKind::Const { value: -1 }, "", ""),
+        (
+            OpKind::Input {
+                types: pair(alloc)?,
+            },
+            "",
+            "iq",
+        ),
+        (
+            OpKind::Output {
+                types: pair(alloc)?,
+            },
+            "iq",
+            "",
+        ),
+        (
+            OpKind::ExitBlock {
+                types: pair(alloc)?,
+            },
+            "",
+            "",
+        ),
+        (
+            OpKind::Unpack {
+                types: pair(alloc)?,
+            },
+            "(iq)",
+            "iq",
+        ),
+    ] {
+        expect_rows(&rt, alloc, &op, ins, outs)?;
+    }
     Ok(())
 }
 
 #[test]
 fn containers_have_their_rows(rt: HostRuntime) -> Result<(), Fail> {
     let alloc = rt.alloc();
-    let rows = two_rows(alloc)?;
     let (ins, outs) = (pair(alloc)?, one(alloc, GraphType::Qubit)?);
     expect_rows(&rt, alloc, &OpKind::Dfg { ins, outs }, "iq", "q")?;
     let (ins, outs) = (pair(alloc)?, one(alloc, GraphType::Qubit)?);
     expect_rows(&rt, alloc, &OpKind::Cfg { ins, outs }, "iq", "q")?;
     let (ins, outs) = (pair(alloc)?, one(alloc, GraphType::Qubit)?);
-    expect_rows(&rt, alloc, &OpKind::Call { ins, outs }, "iq", "q")?;
+    expect_rows(&rt, alloc, &OpKind::Call { ins, outs }, "iq", "q")
+}
+
+#[test]
+fn parts_of_containers_have_their_rows(rt: HostRuntime) -> Result<(), Fail> {
+    let alloc = rt.alloc();
     let (ins, outs) = (pair(alloc)?, one(alloc, GraphType::Qubit)?);
-    expect_rows(&rt, alloc, &OpKind::Case { ins, outs }, "", "")?;
+    let name = tag(alloc)?;
+    expect_rows(&rt, alloc, &OpKind::FuncDefn { name, ins, outs }, "", "")?;
+    let (ins, outs) = (pair(alloc)?, one(alloc, GraphType::Qubit)?);
+    expect_rows(&rt, alloc, &OpKind::Case { ins, outs }, "", "")
+}
+
+#[test]
+fn sums_have_their_rows(rt: HostRuntime) -> Result<(), Fail> {
+    let alloc = rt.alloc();
+    let rows = two_rows(alloc)?;
     let (ins, others) = (pair(alloc)?, one(alloc, GraphType::Qubit)?);
     expect_rows(
         &rt,
@@ -287,8 +293,7 @@ fn containers_have_their_rows(rt: HostRuntime) -> Result<(), Fail> {
         &OpKind::Conditional { rows, ins, outs },
         "?iq",
         "q",
-    )?;
-    Ok(())
+    )
 }
 
 #[test]
@@ -311,23 +316,31 @@ fn tags_and_loops_have_their_rows(rt: HostRuntime) -> Result<(), Fail> {
 }
 
 #[test]
-fn ports_are_counted(rt: HostRuntime) -> Result<(), Fail> {
+fn ports_of_calls_are_counted(rt: HostRuntime) -> Result<(), Fail> {
     let alloc = rt.alloc();
     let (ins, outs) = (pair(alloc)?, one(alloc, GraphType::Qubit)?);
     let call = OpKind::Call { ins, outs };
-    assert_eq!(rt; (input_count(&call), output_count(&call)), (3, 1));
-    let (ins, others) = (pair(alloc)?, one(alloc, GraphType::Qubit)?);
-    let block = OpKind::DataflowBlock {
-        ins,
-        rows: two_rows(alloc)?,
-        others,
-    };
-    assert_eq!(rt; (input_count(&block), output_count(&block)), (1, 2));
-    assert_eq!(rt;
-        (input_count(&OpKind::Rx), output_count(&OpKind::Toffoli)),
-        (2, 3)
-    );
+    assert_eq!(rt; input_count(&call), 3);
+    assert_eq!(rt; output_count(&call), 1);
     Ok(())
+}
+
+#[test]
+fn ports_of_blocks_are_counted(rt: HostRuntime) -> Result<(), Fail> {
+    let alloc = rt.alloc();
+    let (ins, others) = (pair(alloc)?, one(alloc, GraphType::Qubit)?);
+    let rows = two_rows(alloc)?;
+    let block = OpKind::DataflowBlock { ins, rows, others };
+    assert_eq!(rt; input_count(&block), 1);
+    assert_eq!(rt; output_count(&block), 2);
+    Ok(())
+}
+
+#[test]
+fn ports_of_gates_are_counted(rt: HostRuntime) {
+    assert_eq!(rt; input_count(&OpKind::Rx), 2);
+    assert_eq!(rt; output_count(&OpKind::Rx), 1);
+    assert_eq!(rt; output_count(&OpKind::Toffoli), 3);
 }
 
 #[test]

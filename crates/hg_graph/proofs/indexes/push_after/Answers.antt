@@ -1,0 +1,7 @@
+use Rattle.std.proofs.Common.{arith}
+use Rattle.hg_graph.proofs.Updates.{set-updated}
+use Rattle.hg_graph.proofs.indexes.push_after.Goals as goal
+
+pub returns-clause-ok : goal.returns-clause-ok
+returns-clause-ok c =
+    set-updated c.args.indexes.now.items c.args.from.0 _ c.index_mut.result.now c.push_after.new.self (omega arith) c.index_mut.ensures.value c.in_ok-push_after.ensures.ok

@@ -1,4 +1,4 @@
-pub mod CleanWorlds
+pub mod Steps
 pub mod LastPut
 pub mod Live
 pub mod Pieces

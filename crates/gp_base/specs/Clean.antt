@@ -1,10 +1,10 @@
 -- Lists of events that use live qubits only.
-use Rattle.std.specs.Prelude.{◌≡◌, ℕ, Bool, true, if◌then◌else◌, ◌==◌, List, [], ◌∷◌, ◌++◌, length, Option, Some, None, IsSome, option_and_then}
+use Rattle.std.specs.Prelude.{◌≡◌, ℕ, ℤ, Bool, true, if◌then◌else◌, ◌==◌, List, [], ◌∷◌, ◌++◌, length, Option, Some, None, IsSome, option_and_then}
 use Rattle.gp_base.specs.declared.event.Event.{Event}
 use Rattle.gp_base.specs.declared.event.Event.TheVariants.{Alloc, Free, MeasureFree, Measure, Reset, Gate1, Gate2, Gate3, Rotation, ResultInt, ResultBool}
 use Rattle.gp_base.specs.declared.event.GateName.{GateName}
 use Rattle.gp_base.specs.Run.{Out, Returned, Stopped}
-use Rattle.gp_base.specs.World.{World, start, is_live, are_two_live, are_three_live, ended, allocate, free, apply_gate}
+use Rattle.gp_base.specs.World.{World, start, is_live, are_two_live, are_three_live, ended, allocate, free, apply_gate, apply_gate_on_two, apply_gate_on_three, rotate, reset, measure, measure_free, take_turn}
 
 -- the flags, where the test holds
 abbrev pub where_true : Bool → List Bool → Option (List Bool)
@@ -49,9 +49,16 @@ abbrev pub world_after : {A : Type 0} → Out World A → World
 world_after (Returned a w) = w
 world_after (Stopped e w) = w
 
--- a program starts in a clean world, and what allocates, frees or applies a gate keeps it clean
+-- a program starts in a clean world, and every word that changes a world keeps it clean, also where it stops
 pub record WorldsStayClean : Type 0 where
   pub started : (turns : ℕ) (outcomes : List Bool) → IsCleanWorld (start turns outcomes)
   pub allocated : (w : World) → IsCleanWorld w → IsCleanWorld (world_after (allocate w))
   pub freed : (w : World) (q : ℕ) → IsCleanWorld w → IsCleanWorld (world_after (free q w))
   pub gated : (w : World) (gate : GateName) (q : ℕ) → IsCleanWorld w → IsCleanWorld (world_after (apply_gate gate q w))
+  pub gated_two : (w : World) (gate : GateName) (p q : ℕ) → IsCleanWorld w → IsCleanWorld (world_after (apply_gate_on_two gate p q w))
+  pub gated_three : (w : World) (gate : GateName) (p q r : ℕ) → IsCleanWorld w → IsCleanWorld (world_after (apply_gate_on_three gate p q r w))
+  pub rotated : (w : World) (gate : GateName) (q : ℕ) (angle : ℤ) → IsCleanWorld w → IsCleanWorld (world_after (rotate gate q angle w))
+  pub reset_to_first : (w : World) (q : ℕ) → IsCleanWorld w → IsCleanWorld (world_after (reset q w))
+  pub measured : (w : World) (q : ℕ) → IsCleanWorld w → IsCleanWorld (world_after (measure q w))
+  pub measured_free : (w : World) (q : ℕ) → IsCleanWorld w → IsCleanWorld (world_after (measure_free q w))
+  pub turned : (w : World) → IsCleanWorld w → IsCleanWorld (world_after (take_turn w))

@@ -9,8 +9,8 @@ pub fn live_below_next()
     ensures { LiveBelowNext }
 {}
 
-/// The events of a world are clean and leave its flags: so a program starts, and what allocates, frees or applies
-/// a gate keeps it so, also where it stops.
+/// The events of a world are clean and leave its flags: so a program starts, and every word that changes a world (what
+/// allocates, frees, measures, resets, applies a gate or takes a turn) keeps it so, also where it stops.
 pub fn worlds_stay_clean()
     ensures { WorldsStayClean }
 {}

@@ -1,6 +1,6 @@
 //! What the program writes to.
 
-ghost use Rattle.std.specs.Prelude.{OnOk, OnErr};
+ghost use Rattle.std.specs.Prelude.{◌≤◌, OnOk, OnErr};
 ghost use Rattle.gp_base.specs.Outside.{Rose, Wrote, WrotePart};
 
 use crate::files::Failed;
@@ -37,6 +37,7 @@ pub fn write_all<S: Sink>(sink: &mut S, bytes: &[u8]) -> Result<(), Failed>
     ensures ok { OnOk result (Wrote (S.bytes sink.old) (S.bytes sink.new) bytes.now) }
     ensures err { OnErr result (WrotePart (S.bytes sink.old) (S.bytes sink.new) bytes.now) }
     ensures cause { OnErr result (Rose (S.faults sink.old) (S.faults sink.new)) }
+    ensures count { S.faults sink.old ≤ S.faults sink.new }
 {
     let mut count = 0;
     while count < bytes.len() {

@@ -2,4 +2,5 @@ mod Delivered
 mod Discards
 mod Due
 mod ReadSoFar
+mod Served
 mod Told

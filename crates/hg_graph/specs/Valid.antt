@@ -66,7 +66,7 @@ may_stand_in (Conditional rows ins outs) child = is_case child
 may_stand_in _ child = false
 
 abbrev pub SuitsParent : Graph → ℕ → Type 0
-SuitsParent g n = 0 < n → may_stand_in (op_at g (parent_at g n)) (op_at g n) ≡ true
+SuitsParent g n = parent_at g n ≢ n → may_stand_in (op_at g (parent_at g n)) (op_at g n) ≡ true
 
 -- ---- 3. The first child of a dataflow container is `Input`, the second `Output`, and no other child is either; the
 -- two have the types of the container.

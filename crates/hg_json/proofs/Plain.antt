@@ -4,7 +4,7 @@ use Rattle.std.specs.List.{All}
 use Rattle.std.proofs.lemmas.List.Elements.{All-head, All-tail}
 use Rattle.json.proofs.Printed.Utf8.{IsUtf8-are_ascii}
 use Rattle.serde_json.specs.Data.{Data, items_depth, depth}
-use Rattle.hg_graph.specs.Op.{Op, Module, FuncDefn, Input, Output, Alloc, H, X, Free}
+use Rattle.hg_ops.specs.Op.{Op, Module, FuncDefn, Input, Output, Ext, Alloc, Gate1, H, X, Free}
 use Rattle.hg_graph.specs.Graph.{Link, Ports, Order, Graph}
 use Rattle.hg_json.specs.InHand.{IsWithin, HasText, HasPorts, IsInHand}
 use Rattle.hg_json.specs.GraphText.{array_of, node_members, node_data, link_data, graph_data}
@@ -18,13 +18,14 @@ all_plain data_of P Q plain (x ∷ xs) p q = (plain x (All-head P x xs p) (All-h
 op_plain : (op : Op) (parent : ℕ) → parent < 2 ^ 64 → HasText op → IsPlain (node_data (record { op = op; parent = parent }))
 unfolding node_members
 op_plain Module parent few text = (refl, (IsUtf8-are_ascii _ refl, (few, tt)))
-op_plain (FuncDefn name) parent few text = (refl, (tt, (text, (IsUtf8-are_ascii _ refl, (tt, (few, tt))))))
-op_plain Input parent few text = (refl, (IsUtf8-are_ascii _ refl, (few, (tt, tt))))
-op_plain Output parent few text = (refl, (IsUtf8-are_ascii _ refl, (few, (tt, tt))))
-op_plain Alloc parent few text = (refl, (IsUtf8-are_ascii _ refl, (few, tt)))
-op_plain H parent few text = (refl, (IsUtf8-are_ascii _ refl, (few, tt)))
-op_plain X parent few text = (refl, (IsUtf8-are_ascii _ refl, (few, tt)))
-op_plain Free parent few text = (refl, (IsUtf8-are_ascii _ refl, (few, tt)))
+op_plain (FuncDefn name ins outs) parent few text = (refl, (tt, (text, (IsUtf8-are_ascii _ refl, (tt, (few, tt))))))
+op_plain (Input types) parent few text = (refl, (IsUtf8-are_ascii _ refl, (few, (tt, tt))))
+op_plain (Output types) parent few text = (refl, (IsUtf8-are_ascii _ refl, (few, (tt, tt))))
+op_plain (Ext Alloc) parent few text = (refl, (IsUtf8-are_ascii _ refl, (few, tt)))
+op_plain (Ext (Gate1 H)) parent few text = (refl, (IsUtf8-are_ascii _ refl, (few, tt)))
+op_plain (Ext (Gate1 X)) parent few text = (refl, (IsUtf8-are_ascii _ refl, (few, tt)))
+op_plain (Ext Free) parent few text = (refl, (IsUtf8-are_ascii _ refl, (few, tt)))
+op_plain _ parent few text = (refl, tt)
 
 link_plain : (total : ℕ) → total < 2 ^ 64 → (link : Link) → IsWithin total link → HasPorts link → IsPlain (link_data link)
 link_plain total few (Ports from to) within ports = ((omega (arith, within.0), (ports.0, tt)), ((omega (arith, within.1), (ports.1, tt)), tt))
@@ -47,13 +48,14 @@ all_shallow data_of k shallow (x ∷ xs) = omega (arith, shallow x, all_shallow 
 op_shallow : (op : Op) (parent : ℕ) → depth (node_data (record { op = op; parent = parent })) ≤ 3
 unfolding node_members
 op_shallow Module parent = omega arith
-op_shallow (FuncDefn name) parent = omega arith
-op_shallow Input parent = omega arith
-op_shallow Output parent = omega arith
-op_shallow Alloc parent = omega arith
-op_shallow H parent = omega arith
-op_shallow X parent = omega arith
-op_shallow Free parent = omega arith
+op_shallow (FuncDefn name ins outs) parent = omega arith
+op_shallow (Input types) parent = omega arith
+op_shallow (Output types) parent = omega arith
+op_shallow (Ext Alloc) parent = omega arith
+op_shallow (Ext (Gate1 H)) parent = omega arith
+op_shallow (Ext (Gate1 X)) parent = omega arith
+op_shallow (Ext Free) parent = omega arith
+op_shallow _ parent = omega arith
 
 link_shallow : (link : Link) → depth (link_data link) ≤ 2
 link_shallow (Ports from to) = omega arith

@@ -1,10 +1,10 @@
 -- The text of a graph: its data, written as `serde_json` writes it, without blanks and with the keys of
 -- each object in the rising order of their bytes.
-use Rattle.std.specs.Prelude.{ℕ, List, map, codes}
+use Rattle.std.specs.Prelude.{◌≡◌, ℕ, List, [], map, codes, All, ⊤}
 use Rattle.serde_json.specs.Data.{unsigned, Data, null, number, string, array, object, Items, no_items, item, Members, no_members, member}
 use Rattle.serde_json.specs.View.{items_of}
 use Rattle.serde_json.specs.Written.{compact_text}
-use Rattle.hg_graph.specs.Op.{Op, Module, FuncDefn, Input, Output, Alloc, H, X, Free}
+use Rattle.hg_ops.specs.Op.{Op, Module, FuncDefn, Input, Output, Ext, Alloc, Gate1, H, X, Free}
 use Rattle.hg_graph.specs.Graph.{Node, Link, Ports, Order, Graph}
 
 -- the data of each entry
@@ -15,7 +15,7 @@ array_of f xs = items_of (map f xs)
 abbrev pub natural : ℕ → Data
 natural n = number (unsigned n)
 
--- a list of types; so far no op keeps a type
+-- a list of types; so far none is served that has a type
 abbrev pub no_types : Data
 no_types = array no_items
 
@@ -34,16 +34,33 @@ abbrev pub function : List ℕ → ℕ → Members
 function name parent =
     member (codes "ins") no_types (member (codes "name") (string name) (member (codes "op") (string (codes "FuncDefn")) (member (codes "outs") no_types (member (codes "parent") (natural parent) no_members))))
 
--- a row for each op: its name and its shape
+-- So far these ops are served, and where one has a list of types it is empty.
+abbrev pub IsServed : Op → Type 0
+IsServed Module = ⊤
+IsServed (FuncDefn name ins outs) = (ins ≡ []) × (outs ≡ [])
+IsServed (Input types) = types ≡ []
+IsServed (Output types) = types ≡ []
+IsServed (Ext Alloc) = ⊤
+IsServed (Ext (Gate1 H)) = ⊤
+IsServed (Ext (Gate1 X)) = ⊤
+IsServed (Ext Free) = ⊤
+IsServed _ = ⊥
+
+-- every op of the graph is served
+abbrev pub AreServed : Graph → Type 0
+AreServed g = All (λ node. IsServed node.op) g.nodes
+
+-- A row for each op that is served: its name and its shape. Of other ops nothing is meant.
 unfoldable pub node_members : Op → ℕ → Members
 node_members Module parent = bare (codes "Module") parent
-node_members (FuncDefn name) parent = function name parent
-node_members Input parent = typed (codes "Input") parent
-node_members Output parent = typed (codes "Output") parent
-node_members Alloc parent = bare (codes "quantum.alloc") parent
-node_members H parent = bare (codes "quantum.h") parent
-node_members X parent = bare (codes "quantum.x") parent
-node_members Free parent = bare (codes "quantum.free") parent
+node_members (FuncDefn name ins outs) parent = function name parent
+node_members (Input types) parent = typed (codes "Input") parent
+node_members (Output types) parent = typed (codes "Output") parent
+node_members (Ext Alloc) parent = bare (codes "quantum.alloc") parent
+node_members (Ext (Gate1 H)) parent = bare (codes "quantum.h") parent
+node_members (Ext (Gate1 X)) parent = bare (codes "quantum.x") parent
+node_members (Ext Free) parent = bare (codes "quantum.free") parent
+node_members _ parent = no_members
 
 -- the data of a node
 abbrev pub node_data : Node → Data

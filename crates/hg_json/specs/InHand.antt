@@ -1,11 +1,11 @@
 -- What each graph in hand has.
 use Rattle.std.specs.Prelude.{◌<◌, ◌^◌, ℕ, length, All, IsUtf8, ⊤}
-use Rattle.hg_graph.specs.Op.{Op, FuncDefn}
+use Rattle.hg_ops.specs.Op.{Op, FuncDefn}
 use Rattle.hg_graph.specs.Graph.{Link, Ports, Order, Graph}
 
 -- the name of a function is text
 abbrev pub HasText : Op → Type 0
-HasText (FuncDefn name) = IsUtf8 name
+HasText (FuncDefn name ins outs) = IsUtf8 name
 HasText _ = ⊤
 
 -- the nodes of a link are among `total` nodes

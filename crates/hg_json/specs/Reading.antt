@@ -5,7 +5,7 @@ use Rattle.std.specs.Str.{is_utf8}
 use Rattle.serde_json.specs.Data.{Data, null, Items, no_items, item}
 use Rattle.serde_json.specs.Read.{read}
 use Rattle.serde_json.specs.Find.{get, as_str, as_array, as_number, as_u64}
-use Rattle.hg_graph.specs.Op.{Op, Module, FuncDefn, Input, Output, Alloc, H, X, Free}
+use Rattle.hg_ops.specs.Op.{Op, Module, FuncDefn, Input, Output, Ext, Alloc, Gate1, H, X, Free}
 use Rattle.hg_graph.specs.Graph.{Node, Port, Link, Ports, Order, Graph}
 
 -- Why a text stands for no graph. Entries of `nodes` and `edges` are counted from 0.
@@ -44,7 +44,7 @@ natural_at key d = get key d >>= natural_of
 abbrev pub items_at : List ℕ → Data → Option Items
 items_at key d = get key d >>= as_array
 
--- a list of types; so far no op keeps a type, and the list has to be empty
+-- a list of types; so far none is read that has a type
 abbrev pub no_types : Items → Option ⊤
 no_types no_items = Some tt
 no_types (item d ds) = None
@@ -57,15 +57,15 @@ no_types_at key d = items_at key d >>= no_types
 
 -- a function
 unfoldable pub func_defn : Data → Option Op
-func_defn d = text_at (codes "name") d >>= λ name. no_types_at (codes "ins") d >>= λ _. no_types_at (codes "outs") d >>= λ _. Some (FuncDefn name)
+func_defn d = text_at (codes "name") d >>= λ name. no_types_at (codes "ins") d >>= λ _. no_types_at (codes "outs") d >>= λ _. Some (FuncDefn name [] [])
 
 -- an `Input`
 unfoldable pub input : Data → Option Op
-input d = no_types_at (codes "types") d >>= λ _. Some Input
+input d = no_types_at (codes "types") d >>= λ _. Some (Input [])
 
 -- an `Output`
 unfoldable pub output : Data → Option Op
-output d = no_types_at (codes "types") d >>= λ _. Some Output
+output d = no_types_at (codes "types") d >>= λ _. Some (Output [])
 
 -- the op of this name, with its keys
 unfoldable pub op_named : List ℕ → Data → Option Op
@@ -74,10 +74,10 @@ op_named name d =
     (if bytes_eq name (codes "FuncDefn") then func_defn d else
     (if bytes_eq name (codes "Input") then input d else
     (if bytes_eq name (codes "Output") then output d else
-    (if bytes_eq name (codes "quantum.alloc") then Some Alloc else
-    (if bytes_eq name (codes "quantum.h") then Some H else
-    (if bytes_eq name (codes "quantum.x") then Some X else
-    (if bytes_eq name (codes "quantum.free") then Some Free else None)))))))
+    (if bytes_eq name (codes "quantum.alloc") then Some (Ext Alloc) else
+    (if bytes_eq name (codes "quantum.h") then Some (Ext (Gate1 H)) else
+    (if bytes_eq name (codes "quantum.x") then Some (Ext (Gate1 X)) else
+    (if bytes_eq name (codes "quantum.free") then Some (Ext Free) else None)))))))
 
 -- a node of a graph of `total` nodes
 unfoldable pub node_of : ℕ → Data → Option Node

@@ -2,7 +2,7 @@
 
 ghost use Rattle.std.specs.Prelude.{◌<◌, IfOk};
 ghost use Rattle.serde_json.specs.View.{view};
-ghost use Rattle.hg_graph.specs.View.{op_view};
+ghost use Rattle.hg_ops.specs.OpView.{op_view};
 ghost use Rattle.hg_graph.specs.NodeView.{node_view};
 ghost use Rattle.hg_json.specs.Reading as spec;
 ghost use Rattle.hg_json.specs.Answers.{Gives};
@@ -10,7 +10,8 @@ ghost use Rattle.hg_json.specs.Answers.{Gives};
 use crate::fault::Miss;
 use crate::parts::{natural_at, no_types_at, text_at};
 use gp_base::Name;
-use hg_graph::{Node, NodeId, OpKind};
+use hg_graph::{Node, NodeId};
+use hg_ops::{OpKind, Row};
 use serde_json::Value;
 use std::alloc::Global;
 
@@ -23,25 +24,33 @@ fn func_defn(alloc: Global, value: &Value) -> Result<OpKind, Miss>
     no_types_at(value, "ins").ok_or(Miss::Shape)?;
     no_types_at(value, "outs").ok_or(Miss::Shape)?;
     let name = Name::new(alloc, name)?;
-    Ok(OpKind::FuncDefn { name })
+    Ok(OpKind::FuncDefn {
+        name,
+        ins: Row::new(alloc),
+        outs: Row::new(alloc),
+    })
 }
 
 // An `Input`.
 #[tactic(auto, unfolding(crate::specs::Reading::input))]
-fn input(value: &Value) -> Result<OpKind, Miss>
+fn input(alloc: Global, value: &Value) -> Result<OpKind, Miss>
     ensures { Gives op_view result (spec.input (view value.now)) }
 {
     no_types_at(value, "types").ok_or(Miss::Shape)?;
-    Ok(OpKind::Input)
+    Ok(OpKind::Input {
+        types: Row::new(alloc),
+    })
 }
 
 // An `Output`.
 #[tactic(auto, unfolding(crate::specs::Reading::output))]
-fn output(value: &Value) -> Result<OpKind, Miss>
+fn output(alloc: Global, value: &Value) -> Result<OpKind, Miss>
     ensures { Gives op_view result (spec.output (view value.now)) }
 {
     no_types_at(value, "types").ok_or(Miss::Shape)?;
-    Ok(OpKind::Output)
+    Ok(OpKind::Output {
+        types: Row::new(alloc),
+    })
 }
 
 // The op of this name, with its keys.
@@ -52,8 +61,8 @@ fn op_named(alloc: Global, name: &str, value: &Value) -> Result<OpKind, Miss>
     match name {
         "Module" => Ok(OpKind::Module),
         "FuncDefn" => func_defn(alloc, value),
-        "Input" => input(value),
-        "Output" => output(value),
+        "Input" => input(alloc, value),
+        "Output" => output(alloc, value),
         "quantum.alloc" => Ok(OpKind::Alloc),
         "quantum.h" => Ok(OpKind::H),
         "quantum.x" => Ok(OpKind::X),

@@ -27,7 +27,7 @@ pub fn items_at<'v>(value: &'v Value, key: &str) -> Option<&'v Vec<Value>>
     value.get(key)?.as_array()
 }
 
-/// The list of types at a key. So far no op keeps a type, and the list has to be empty.
+/// The list of types at a key. So far none is read that has a type.
 #[tactic(auto, unfolding(crate::specs::Reading::no_types_at), using(crate::proofs::Pieces::no_types_some, crate::proofs::Pieces::no_types_none))]
 pub fn no_types_at(value: &Value, key: &str) -> Option<()>
     ensures { Finds (λ found. found) result (spec.no_types_at key.now (view value.now)) }

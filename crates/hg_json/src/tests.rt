@@ -4,7 +4,8 @@ use crate::fault::JsonFault;
 use crate::laws::written_graphs_read_back;
 use crate::reading::{MAX_TEXT_BYTES, read};
 use crate::writing::write;
-use hg_graph::{Link, NodeId, OpKind, Port};
+use hg_graph::{Link, NodeId, Port};
+use hg_ops::OpKind;
 use std::test::Fail;
 
 // A function that allocates a qubit and frees it, as graphs are written.
@@ -16,7 +17,7 @@ fn reads_and_writes_a_graph(rt: HostRuntime) -> Result<(), Fail> {
     let graph = read(rt.alloc(), QUBIT.as_bytes())?;
     assert_eq!(rt; graph.node_count(), 6);
     assert!(rt;
-        matches!(graph.op(NodeId(1)), OpKind::FuncDefn { name } if name.as_str() == "main")
+        matches!(graph.op(NodeId(1)), OpKind::FuncDefn { name, .. } if name.as_str() == "main")
     );
     assert_eq!(rt; graph.parent(NodeId(5)), NodeId(1));
     assert_eq!(rt; graph.link_count(), 2);

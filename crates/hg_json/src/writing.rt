@@ -5,11 +5,13 @@ ghost use Rattle.serde_json.specs.Data.{object};
 ghost use Rattle.serde_json.specs.View.{view as seen};
 ghost use Rattle.serde_json.specs.Written.{has_float, compact_text, comma_if, items_text};
 ghost use Rattle.hg_graph.specs.Graph.{op_at, parent_at};
-ghost use Rattle.hg_graph.specs.View.{op_view, link_view};
+ghost use Rattle.hg_graph.specs.View.{link_view};
+ghost use Rattle.hg_ops.specs.OpView.{op_view};
 ghost use Rattle.hg_json.specs.GraphText as spec;
-ghost use Rattle.hg_json.specs.GraphText.{array_of, node_data, node_members, link_data, json};
+ghost use Rattle.hg_json.specs.GraphText.{IsServed, AreServed, array_of, node_data, node_members, link_data, json};
 
-use hg_graph::{Graph, Link, NodeId, OpKind, Port};
+use hg_graph::{Graph, Link, NodeId, Port};
+use hg_ops::OpKind;
 use serde_json::{Value, json};
 use std::alloc::{AllocError, Global};
 
@@ -34,20 +36,22 @@ fn function(alloc: Global, name: &str, parent: u64) -> Result<Value, AllocError>
     json!(in alloc; {"ins": [], "name": name, "op": "FuncDefn", "outs": [], "parent": parent})
 }
 
-// The value of a node.
+// The value of a node whose op is served.
 #[tactic(auto, unfolding(crate::specs::GraphText::node_members))]
 fn node_value(alloc: Global, op: &OpKind, parent: u64) -> Result<Value, AllocError>
+    requires { IsServed (op_view op.now) }
     ensures { IfOk result (λ made. seen made ≡ object (node_members (op_view op.now) parent)) }
 {
     match op {
         OpKind::Module => bare(alloc, "Module", parent),
-        OpKind::FuncDefn { name } => function(alloc, name.as_str(), parent),
-        OpKind::Input => typed(alloc, "Input", parent),
-        OpKind::Output => typed(alloc, "Output", parent),
+        OpKind::FuncDefn { name, .. } => function(alloc, name.as_str(), parent),
+        OpKind::Input { .. } => typed(alloc, "Input", parent),
+        OpKind::Output { .. } => typed(alloc, "Output", parent),
         OpKind::Alloc => bare(alloc, "quantum.alloc", parent),
         OpKind::H => bare(alloc, "quantum.h", parent),
         OpKind::X => bare(alloc, "quantum.x", parent),
         OpKind::Free => bare(alloc, "quantum.free", parent),
+        _ => unreachable!(),
     }
 }
 
@@ -90,7 +94,8 @@ fn push_value(
 
 // Writes a node.
 fn push_node(alloc: Global, out: &mut Vec<u8>, graph: &Graph, number: u64) -> Result<(), AllocError>
-    requires { number < length graph.now.nodes }
+    requires number_in { number < length graph.now.nodes }
+    requires served { AreServed graph.now }
     ensures { OnOk result (out.new.items ≡ out.old.items
         ++ (comma_if (nat_lt 0 number) ++ compact_text (object (node_members (op_at graph.now number) (parent_at graph.now number))))) }
 {
@@ -109,6 +114,7 @@ fn push_link(alloc: Global, out: &mut Vec<u8>, later: bool, link: Link) -> Resul
 
 // Writes the nodes and the closing bracket.
 fn push_nodes(alloc: Global, out: &mut Vec<u8>, graph: &Graph) -> Result<(), AllocError>
+    requires { AreServed graph.now }
     ensures { OnOk result (out.new.items ≡ out.old.items ++ items_text false (array_of node_data graph.now.nodes)) }
 {
     for number in 0..graph.node_count() {
@@ -128,8 +134,10 @@ fn push_links(alloc: Global, out: &mut Vec<u8>, graph: &Graph) -> Result<(), All
     Ok(out.push(b']')?)
 }
 
-/// The text of a graph, without a line end.
+/// The text of a graph, without a line end. So far graphs are served whose ops are `Module`, `FuncDefn`, `Input`,
+/// `Output`, `quantum.alloc`, `quantum.h`, `quantum.x` and `quantum.free` without types.
 pub fn write(alloc: Global, graph: &Graph) -> Result<Vec<u8>, AllocError>
+    requires { AreServed graph.now }
     ensures { IfOk result (λ text. text.items ≡ json graph.now) }
 {
     let mut out = Vec::new(alloc);

@@ -5,11 +5,11 @@ use Rattle.std.proofs.lemmas.Bool.Decides.{eqb_tells}
 use Rattle.std.proofs.lemmas.Bool.{eqb-true, eq-eqb}
 use Rattle.hg_ops.specs.GraphType.{GraphType, is_linear}
 use Rattle.hg_ops.specs.Op.{Types, ins_of, outs_of}
-use Rattle.hg_laws.specs.Graph.{Graph, In, op_at, firing_children}
-use Rattle.hg_laws.specs.Moments.{yet_to_fire, IsPartway}
-use Rattle.hg_laws.specs.Run.{Look, has_fired, value_at, cons_both, inputs, Ready, ready}
-use Rattle.hg_laws.specs.Valid.{Edge, Path, edge, joined}
-use Rattle.hg_laws.specs.Value.{Value, HasType, HaveTypes, functions}
+use Rattle.hg_graph.specs.Graph.{Graph, In, op_at, firing_children}
+use Rattle.hg_graph.specs.Moments.{yet_to_fire, IsPartway}
+use Rattle.hg_graph.specs.Run.{Look, has_fired, value_at, cons_both, inputs, Ready, ready}
+use Rattle.hg_graph.specs.Valid.{Edge, Path, edge, joined}
+use Rattle.hg_graph.specs.Value.{Value, HasType, HaveTypes, functions}
 use Rattle.hg_laws.proofs.Lists.{Distinct, In-filter, In-filter_back, circle, get_within}
 use Rattle.hg_laws.proofs.Values.{has_at}
 use Rattle.hg_laws.proofs.Wires.{Wire, Pair, value_links, order_links, wire_into, wires_into, wires_from, along, gathered, orders_done, inputs_are, wire_edge, pair_edge, edge_cases}

@@ -196,7 +196,7 @@ within g n name i o e = elim (cases_lt n (length g.nodes)) [ inl l ↦ l | inr l
     no h = cc
 
 -- ---- rules
-inner_of : (o : Op) → stands_in_region o ≡ true → is_boundary o ≡ false → is_inner o ≡ true
+pub inner_of : (o : Op) → stands_in_region o ≡ true → is_boundary o ≡ false → is_inner o ≡ true
 inner_of (Const v) s b = refl
 inner_of (Dfg i o) s b = refl
 inner_of (Cfg i o) s b = refl
@@ -208,7 +208,7 @@ inner_of LoadConstant s b = refl
 inner_of (Ext e) s b = refl
 inner_of _ s b = absurd cc
 
-in_container : (o child : Op) → is_dataflow_container o ≡ true → may_stand_in o child ≡ true → stands_in_region child ≡ true
+pub in_container : (o child : Op) → is_dataflow_container o ≡ true → may_stand_in o child ≡ true → stands_in_region child ≡ true
 in_container (FuncDefn n i o) child d m = m
 in_container (Dfg i o) child d m = m
 in_container (Case i o) child d m = m
@@ -221,7 +221,7 @@ exit_in : (o : Op) (t : Types) → may_stand_in o (ExitBlock t) ≡ true → (i 
 exit_in (Cfg i o) t m = (i, o, refl)
 exit_in _ t m = absurd cc
 
-positive : (n : ℕ) → n ≢ 0 → 0 < n
+pub positive : (n : ℕ) → n ≢ 0 → 0 < n
 positive n ne = omega arith
 
 module _ (g : Graph) (V : IsValid g) where
@@ -330,7 +330,7 @@ module _ (g : Graph) (V : IsValid g) where
       let up = positive n (λ z. no_module (sym (((place 0 (V.graph).some).root refl).0) ∙ (ap (op_at g) (sym z) ∙ e))) in
       let less = ((place n l).others up).1 in
       let pl : parent_at g n < length g.nodes = omega arith in
-      let c = exit_in (op_at g (parent_at g n)) t (ap (may_stand_in (op_at g (parent_at g n))) (sym e) ∙ V.keeps Valid.Children n l up) in
+      let c = exit_in (op_at g (parent_at g n)) t (ap (may_stand_in (op_at g (parent_at g n))) (sym e) ∙ V.keeps Valid.Children n l (λ z. below n (parent_at g n) (sym z) less)) in
       let B = subst (KeepsBlocks g (parent_at g n)) c.2 (V.keeps Valid.Blocks (parent_at g n) pl) in
       let i = is_child g (parent_at g n) n l refl (λ z. below n (parent_at g n) z less) in
       let outs : t ≡ c.1 = elim (subst (In n) B.are_children i) [
@@ -354,6 +354,9 @@ module _ (g : Graph) (V : IsValid g) where
       types_are : (u : Types) → ExitBlock u ≡ ExitBlock t → t ≡ u
       types_are u h = cc
 
+  smaller : (n p : ℕ) → p ≡ n → p < n → ⊥
+  smaller n p e l = absurd (omega arith)
+
   pub known : Known g
   unfolding value_links
   known = record {
@@ -361,7 +364,7 @@ module _ (g : Graph) (V : IsValid g) where
     root_parent = is_root_parent;
     rises = λ n z l. ((place n l).others z).1;
     regions = λ c l f. V.keeps Valid.Boundaries c l f;
-    suits = λ n z l. V.keeps Valid.Children n l z;
+    suits = λ n z l. V.keeps Valid.Children n l (λ e. smaller n (parent_at g n) e ((place n l).others z).1);
     wires = joins;
     orders = joins_pair;
     fed = λ n p l h. sym (into_same g g.links n p h) ∙ V.keeps Valid.Inputs n l p h;
@@ -378,7 +381,7 @@ module _ (g : Graph) (V : IsValid g) where
   }
 
 module _ (g : Graph) (K : Known g) where
-  pub region_of : (c : ℕ) → is_dataflow_container (op_at g c) ≡ true → HasBoundary g c → HasRegion g c
+  unfoldable pub region_of : (c : ℕ) → is_dataflow_container (op_at g c) ≡ true → HasBoundary g c → HasRegion g c
   region_of c f B = record {
     input = B.input;
     output = B.output;

@@ -8,7 +8,24 @@ pub mod Known
 pub mod Flow
 pub mod Regions
 pub mod Matches
-pub mod Steps
+pub mod Ops
 pub mod Typed
 pub mod Cleanly
-mod Samples
+pub mod Bounds
+pub mod Diamond
+pub mod Alike
+pub mod Forms
+pub mod Order
+pub mod AnyOrder
+pub mod AnyFirst
+pub mod Carry
+pub mod Counts
+pub mod Safe
+pub mod Ports
+pub mod Mirrors
+pub mod Places
+pub mod Broken
+pub mod Tests
+pub mod Tested
+pub mod Main
+pub mod Samples

@@ -2,8 +2,8 @@
 use Rattle.std.proofs.Common.{ℕ, zero, suc, ℤ, Bool, List, [], ◌∷◌, Option, Some, None}
 use Rattle.gp_base.specs.Run.{Run, Stuck, stop}
 use Rattle.gp_base.specs.World.{World}
-use Rattle.hg_laws.specs.Run.{with_qubit, with_two_qubits, with_three_qubits, with_angle, with_int, with_two_ints, if_truth, with_bool, with_two_bools, with_tuple}
-use Rattle.hg_laws.specs.Value.{Value, Int, Qubit, Variant, values, truth_of}
+use Rattle.hg_graph.specs.Run.{with_qubit, with_two_qubits, with_three_qubits, with_angle, with_int, with_two_ints, if_truth, with_bool, with_two_bools, with_tuple}
+use Rattle.hg_graph.specs.Value.{Value, Int, Qubit, Variant, values, truth_of}
 
 module _ (P : Run World (List Value) → Type 0) (stuck : P (stop Stuck)) where
   pub qubit_case : (vs : List Value) (k : ℕ → Run World (List Value)) → ((q : ℕ) → P (k q)) → P (with_qubit vs k)

@@ -1,118 +1,103 @@
--- Runs of small graphs, computed.
-use Rattle.std.proofs.Common.{◌≡◌, ℕ, Bool, true, false, List, [], ◌∷◌, pos, negsuc, ℤ, codes, refl}
-use Rattle.gp_base.specs.Number.{quotient, remainder, sum, product, negated}
+-- Small graphs: their runs are computed, and tests show them valid and ordered.
+use Rattle.std.proofs.Common.{◌≡◌, ℕ, true, cond, List, [], ◌∷◌, length, refl, sym, ap, ◌∙◌, arith}
+use Rattle.std.specs.Int.{int_wrap}
+use Rattle.gp_base.specs.World.{World, start}
+use Rattle.gp_base.specs.Run.{Out, Returned, Stopped}
 use Rattle.gp_base.specs.declared.event.Event.{Event}
 use Rattle.gp_base.specs.declared.event.Event.TheVariants as event
 use Rattle.gp_base.specs.declared.event.GateName.TheVariants as name
-use Rattle.gp_base.specs.Run.{Returned, Stopped, TurnsUsed}
-use Rattle.gp_base.specs.World.{World, start}
-use Rattle.hg_ops.specs.GraphType.{GraphType, Qubit, sum_type}
-use Rattle.hg_ops.specs.Op as op
-use Rattle.hg_ops.specs.Op.{Op, Types}
-use Rattle.hg_graph.specs.Graph.{Node, Link, Ports, Order, Graph, op_at, parent_at, children, firing_children}
+use Rattle.hg_graph.specs.Graph.{Graph, op_at, parent_at, children, firing_children}
+use Rattle.hg_graph.specs.Moments.{IsProper}
+use Rattle.hg_graph.specs.Ordered.{IsOrdered}
 use Rattle.hg_graph.specs.Run.{inputs, candidate, ready, perform_extension, perform, fire_op, firings, region, enter_op, runs, run_function, graph_run}
+use Rattle.hg_graph.specs.Valid.{IsValid, is_output}
+use Rattle.hg_graph.specs.Value.{Value}
+use Rattle.hg_laws.specs.Samples.{thin, crossed, loop, counts, both_ended, NumbersAre, SamplesRun, SamplesAreValid}
+use Rattle.hg_laws.proofs.Tested.{valid_ok, passes_valid, ordered_ok, passes_ordered}
+use Rattle.hg_laws.proofs.Main.{picks_change_nothing_lem}
 
-abbrev node : Op → ℕ → Node
-node kind parent = record { op = kind; parent = parent }
+pub numbers_are_lem : NumbersAre
+unfolding int_wrap
+numbers_are_lem = record { quotients = refl; remainders = refl; greatest = refl; least = refl; least_rest = refl }
 
-abbrev wire : ℕ → ℕ → ℕ → ℕ → Link
-wire a p b q = Ports (record { node = a; index = p }) (record { node = b; index = q })
+pub samples_run_lem : SamplesRun
+unfolding graph_run run_function runs enter_op region firings fire_op perform perform_extension ready candidate inputs children firing_children op_at parent_at int_wrap
+samples_run_lem = record { thin_runs = refl; crossed_runs = refl; one_pick = refl; three_picks = refl; four_picks = refl; loop_runs = refl; loop_stops = refl; counts_down = refl }
 
--- ---- whole numbers
+-- each edge goes to a greater number or to an `Output`
+by_number : Graph → ℕ → ℕ
+by_number g n = cond (is_output (op_at g n)) (length g.nodes) n
 
-whole_numbers : List ℤ
-whole_numbers =
-    quotient (negsuc 6) (pos 2) ∷ remainder (negsuc 6) (pos 2) ∷ quotient (pos 7) (negsuc 1) ∷ remainder (pos 7) (negsuc 1)
-    ∷ sum (pos 9223372036854775807) (pos 1) ∷ quotient (negsuc 9223372036854775807) (negsuc 0) ∷ remainder (negsuc 9223372036854775807) (negsuc 0) ∷ []
+thin_passes : valid_ok thin (by_number thin) ≡ true
+unfolding valid_ok by_number children firing_children op_at parent_at
+thin_passes = refl
 
-whole_numbers_are : whole_numbers ≡ negsuc 3 ∷ pos 1 ∷ negsuc 3 ∷ negsuc 0 ∷ negsuc 9223372036854775807 ∷ negsuc 9223372036854775807 ∷ pos 0 ∷ []
-unfolding whole_numbers Rattle.std.specs.Int.int_wrap
-whole_numbers_are = refl
+thin_valid : IsValid thin
+thin_valid = passes_valid thin (by_number thin) thin_passes
 
--- ---- a loop that measures until it sees 0
+crossed_passes : valid_ok crossed (by_number crossed) ≡ true
+unfolding valid_ok by_number children firing_children op_at parent_at
+crossed_passes = refl
 
-abbrev one : Types
-one = Qubit ∷ []
+crossed_valid : IsValid crossed
+crossed_valid = passes_valid crossed (by_number crossed) crossed_passes
 
-abbrev two : List Types
-two = one ∷ one ∷ []
+loop_passes : valid_ok loop (by_number loop) ≡ true
+unfolding valid_ok by_number children firing_children op_at parent_at
+loop_passes = refl
 
-abbrev tests : List Types
-tests = [] ∷ [] ∷ []
+loop_valid : IsValid loop
+loop_valid = passes_valid loop (by_number loop) loop_passes
 
-abbrev either : Types
-either = sum_type two ∷ []
+counts_passes : valid_ok counts (by_number counts) ≡ true
+unfolding valid_ok by_number children firing_children op_at parent_at
+counts_passes = refl
 
-abbrev loop : Graph
-loop = record {
-  nodes = node op.Module 0 ∷ node (op.FuncDefn (codes "main") [] []) 0 ∷ node (op.Input []) 1 ∷ node (op.Output []) 1 ∷ node (op.Ext op.Alloc) 1 ∷ node (op.TailLoop one one []) 1 ∷ node (op.Input one) 5 ∷ node (op.Output either) 5 ∷ node (op.Ext op.Measure) 5 ∷ node (op.Conditional tests one either) 5 ∷ node (op.Case one either) 9 ∷ node (op.Input one) 10 ∷ node (op.Output either) 10 ∷ node (op.Tag two 1) 10 ∷ node (op.Case one either) 9 ∷ node (op.Input one) 14 ∷ node (op.Output either) 14 ∷ node (op.Tag two 0) 14 ∷ node (op.Ext op.Free) 1 ∷ [];
-  links = wire 4 0 5 0 ∷ wire 5 0 18 0 ∷ wire 6 0 8 0 ∷ wire 8 1 9 0 ∷ wire 8 0 9 1 ∷ wire 9 0 7 0 ∷ wire 11 0 13 0 ∷ wire 13 0 12 0 ∷ wire 15 0 17 0 ∷ wire 17 0 16 0 ∷ [];
+counts_valid : IsValid counts
+counts_valid = passes_valid counts (by_number counts) counts_passes
+
+thin_chains : ordered_ok thin ≡ true
+unfolding ordered_ok children firing_children op_at parent_at
+thin_chains = refl
+
+loop_chains : ordered_ok loop ≡ true
+unfolding ordered_ok children firing_children op_at parent_at
+loop_chains = refl
+
+counts_chains : ordered_ok counts ≡ true
+unfolding ordered_ok children firing_children op_at parent_at
+counts_chains = refl
+
+-- two lists of picks give it two runs
+crossed_unordered : IsOrdered crossed → ⊥
+unfolding op_at
+crossed_unordered O =
+    let P : IsProper crossed 1 [] (start 5 []) = record { is_node = omega arith; name = _; ins = []; outs = []; is_function = refl; typed = tt; live = λ q. omega arith } in
+    no (sym (samples_run_lem.three_picks) ∙ (picks_change_nothing_lem crossed crossed_valid O 1 [] (start 5 []) P (0 ∷ 0 ∷ 1 ∷ []) ∙ samples_run_lem.crossed_runs))
+  where
+    -- the qubit of the third event
+    third : List Event → ℕ
+    third (a ∷ b ∷ event.Gate1 gate q ∷ rest) = q
+    third _ = 0
+
+    events : Out World (List Value) → List Event
+    events (Returned vs w) = w.events
+    events (Stopped e w) = w.events
+
+    apart : ◌≡◌ {A = ℕ} 1 0 → ⊥
+    apart e = absurd (omega arith)
+
+    no : ◌≡◌ {A = Out World (List Value)} (Returned [] (both_ended (event.Alloc 0 ∷ event.Alloc 1 ∷ event.Gate1 name.H 1 ∷ event.Gate1 name.H 0 ∷ event.Free 0 ∷ event.Free 1 ∷ []))) (Returned [] (both_ended (event.Alloc 0 ∷ event.Alloc 1 ∷ event.Gate1 name.H 0 ∷ event.Gate1 name.H 1 ∷ event.Free 0 ∷ event.Free 1 ∷ []))) → ⊥
+    no e = apart (ap (λ o. third (events o)) e)
+
+pub samples_are_valid_lem : SamplesAreValid
+samples_are_valid_lem = record {
+  thin_valid = thin_valid;
+  crossed_valid = crossed_valid;
+  loop_valid = loop_valid;
+  counts_valid = counts_valid;
+  thin_ordered = passes_ordered thin thin_valid thin_chains;
+  loop_ordered = passes_ordered loop loop_valid loop_chains;
+  counts_ordered = passes_ordered counts counts_valid counts_chains;
+  crossed_unordered = crossed_unordered;
 }
-
-loop_runs : graph_run loop 1 [] (start 5 (true ∷ true ∷ false ∷ [])) [] ≡ Returned [] (record { flags = false ∷ []; turns = 3; outcomes = []; events = event.Alloc 0 ∷ event.Measure 0 true ∷ event.Measure 0 true ∷ event.Measure 0 false ∷ event.Free 0 ∷ [] })
-unfolding graph_run run_function runs enter_op region firings fire_op perform perform_extension ready candidate inputs children firing_children op_at parent_at
-loop_runs = refl
-
-loop_stops : graph_run loop 1 [] (start 1 (true ∷ true ∷ false ∷ [])) [] ≡ Stopped TurnsUsed (record { flags = true ∷ []; turns = 0; outcomes = false ∷ []; events = event.Alloc 0 ∷ event.Measure 0 true ∷ event.Measure 0 true ∷ [] })
-unfolding graph_run run_function runs enter_op region firings fire_op perform perform_extension ready candidate inputs children firing_children op_at parent_at
-loop_stops = refl
-
--- ---- two qubits, whose gates have no order
-
-abbrev crossed : Graph
-crossed = record {
-  nodes = node op.Module 0 ∷ node (op.FuncDefn (codes "main") [] []) 0 ∷ node (op.Input []) 1 ∷ node (op.Output []) 1 ∷ node (op.Ext op.Alloc) 1 ∷ node (op.Ext op.Alloc) 1 ∷ node (op.Ext (op.Gate1 op.H)) 1 ∷ node (op.Ext (op.Gate1 op.H)) 1 ∷ node (op.Ext op.Free) 1 ∷ node (op.Ext op.Free) 1 ∷ [];
-  links = wire 4 0 6 0 ∷ wire 5 0 7 0 ∷ wire 6 0 8 0 ∷ wire 7 0 9 0 ∷ Order 4 5 ∷ Order 5 6 ∷ [];
-}
-
-abbrev ends : List Event → World
-ends events = record { flags = false ∷ false ∷ []; turns = 5; outcomes = []; events = events }
-
-no_picks : graph_run crossed 1 [] (start 5 []) [] ≡ Returned [] (ends (event.Alloc 0 ∷ event.Alloc 1 ∷ event.Gate1 name.H 0 ∷ event.Gate1 name.H 1 ∷ event.Free 0 ∷ event.Free 1 ∷ []))
-unfolding graph_run run_function runs enter_op region firings fire_op perform perform_extension ready candidate inputs children firing_children op_at parent_at
-no_picks = refl
-
-one_pick : graph_run crossed 1 [] (start 5 []) (1 ∷ []) ≡ graph_run crossed 1 [] (start 5 []) []
-unfolding graph_run run_function runs enter_op region firings fire_op perform perform_extension ready candidate inputs children firing_children op_at parent_at
-one_pick = refl
-
-three_picks : graph_run crossed 1 [] (start 5 []) (0 ∷ 0 ∷ 1 ∷ []) ≡ Returned [] (ends (event.Alloc 0 ∷ event.Alloc 1 ∷ event.Gate1 name.H 1 ∷ event.Gate1 name.H 0 ∷ event.Free 0 ∷ event.Free 1 ∷ []))
-unfolding graph_run run_function runs enter_op region firings fire_op perform perform_extension ready candidate inputs children firing_children op_at parent_at
-three_picks = refl
-
-four_picks : graph_run crossed 1 [] (start 5 []) (0 ∷ 0 ∷ 4294967295 ∷ 3 ∷ []) ≡ Returned [] (ends (event.Alloc 0 ∷ event.Alloc 1 ∷ event.Gate1 name.H 1 ∷ event.Free 1 ∷ event.Gate1 name.H 0 ∷ event.Free 0 ∷ []))
-unfolding graph_run run_function runs enter_op region firings fire_op perform perform_extension ready candidate inputs children firing_children op_at parent_at
-four_picks = refl
-
--- ---- one qubit and one gate
-
-abbrev thin : Graph
-thin = record {
-  nodes = node op.Module 0 ∷ node (op.FuncDefn (codes "main") [] []) 0 ∷ node (op.Input []) 1 ∷ node (op.Output []) 1 ∷ node (op.Ext op.Alloc) 1 ∷ node (op.Ext (op.Gate1 op.H)) 1 ∷ node (op.Ext op.Free) 1 ∷ [];
-  links = wire 4 0 5 0 ∷ Order 4 5 ∷ wire 5 0 6 0 ∷ Order 5 6 ∷ [];
-}
-
-thin_runs : graph_run thin 1 [] (start 5 []) [] ≡ Returned [] (record { flags = false ∷ []; turns = 5; outcomes = []; events = event.Alloc 0 ∷ event.Gate1 name.H 0 ∷ event.Free 0 ∷ [] })
-unfolding graph_run run_function runs enter_op region firings fire_op perform perform_extension ready candidate inputs children firing_children op_at parent_at
-thin_runs = refl
-
--- ---- a block that counts a number down, by a call of a function, until it is negative
-
-abbrev number : Types
-number = GraphType.Int ∷ []
-
-abbrev counts : Graph
-counts = record {
-  nodes = node op.Module 0 ∷ node (op.FuncDefn (codes "main") [] []) 0 ∷ node (op.FuncDefn (codes "less") number number) 0
-      ∷ node (op.Input []) 1 ∷ node (op.Output []) 1 ∷ node (op.Const (pos 2)) 1 ∷ node op.LoadConstant 1 ∷ node (op.Cfg number number) 1 ∷ node (op.Ext (op.ResultInt (codes "n"))) 1
-      ∷ node (op.DataflowBlock number ([] ∷ [] ∷ []) number) 7 ∷ node (op.ExitBlock number) 7
-      ∷ node (op.Input number) 9 ∷ node (op.Output (sum_type ([] ∷ [] ∷ []) ∷ number)) 9 ∷ node (op.Call number number) 9 ∷ node (op.Const (pos 0)) 9 ∷ node op.LoadConstant 9 ∷ node (op.Ext (op.Compare op.Lt)) 9
-      ∷ node (op.Input number) 2 ∷ node (op.Output number) 2 ∷ node (op.Const (pos 1)) 2 ∷ node op.LoadConstant 2 ∷ node (op.Ext (op.Calculate op.Sub)) 2 ∷ [];
-  links = wire 5 0 6 0 ∷ wire 6 0 7 0 ∷ wire 7 0 8 0 ∷ Order 7 8 ∷ wire 9 0 9 0 ∷ wire 9 1 10 0
-      ∷ wire 11 0 13 0 ∷ wire 2 0 13 1 ∷ wire 14 0 15 0 ∷ wire 13 0 16 0 ∷ wire 15 0 16 1 ∷ wire 16 0 12 0 ∷ wire 13 0 12 1
-      ∷ wire 19 0 20 0 ∷ wire 17 0 21 0 ∷ wire 20 0 21 1 ∷ wire 21 0 18 0 ∷ [];
-}
-
-counts_down : graph_run counts 1 [] (start 5 []) [] ≡ Returned [] (record { flags = []; turns = 0; outcomes = []; events = event.ResultInt (codes "n") (negsuc 0) ∷ [] })
-unfolding graph_run run_function runs enter_op region firings fire_op perform perform_extension ready candidate inputs children firing_children op_at parent_at Rattle.std.specs.Int.int_wrap
-counts_down = refl

@@ -9,7 +9,7 @@ use Rattle.hg_graph.specs.Graph.{Graph, In, op_at}
 use Rattle.hg_graph.specs.Moments.{Moment, HasOnePlace, EachMoment, IsProper, ReturnsItsQubits, EndsWell, IsPartway, noted_run, notes_of}
 use Rattle.hg_graph.specs.Ordered.{IsOrdered}
 use Rattle.hg_graph.specs.Run.{Fired, Open, outs_at, Ready, ready, State, Note, no_note, fire, firings, enter_op, level, resume, runs, world_out, graph_run}
-use Rattle.hg_graph.specs.Valid.{IsValid, HasBoundary}
+use Rattle.hg_graph.specs.Valid.{Rule, IsValid, IsBroken, HasBoundary}
 use Rattle.hg_graph.specs.Value.{Value}
 
 -- In a valid graph, whoever wrote it, under any picks and from proper arguments, each qubit has one place at each moment.
@@ -69,3 +69,8 @@ AnyReadyFirst =
     → world_out (firings no_note g (fire no_note g (runs no_note g) (runs no_note g)) outer c boundary.output (suc count) fired s)
     ≡ world_out ((fire no_note g (runs no_note g) (runs no_note g) others r.node r.ins
     >>= (λ outs. firings no_note g (fire no_note g (runs no_note g) (runs no_note g)) outer c boundary.output count (record { node = r.node; outs = outs } ∷ fired))) t)
+
+-- No more than one rule and one node are the least that is broken, and none is in a valid graph.
+pub record OneIsBroken : Type 0 where
+  pub one : (g : Graph) (rule other : Rule) (n m : ℕ) → IsBroken g rule n → IsBroken g other m → (rule ≡ other) × (n ≡ m)
+  pub none : (g : Graph) (rule : Rule) (n : ℕ) → IsValid g → IsBroken g rule n → ⊥

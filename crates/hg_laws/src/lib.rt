@@ -1,8 +1,78 @@
-//! Laws of program graphs and their runs.
+//! Laws of program graphs and their runs. Each function does nothing: its contract is the law.
 #![tactic(auto)]
 
-ghost use Rattle.hg_laws.specs.Laws.{ValidGraphsKeepPlaces};
+ghost use Rattle.hg_laws.specs.Samples.{NumbersAre, SamplesRun, SamplesAreValid};
+ghost use Rattle.hg_laws.specs.Laws.{ValidGraphsKeepPlaces, MomentsChangeNothing, ValidGraphsEndWell, RunsAreClean, ClosedRunsHoldNone, PicksChangeNothing, BoundsSuffice, RunsUnfold, AnyReadyFirst, OneIsBroken};
 
-/// In a valid graph each live qubit has one place at each moment of each run.
+/// In a valid graph, under any picks and from proper arguments, each moment of a run keeps these facts together: each
+/// qubit that is live and was allocated in this run or came with its arguments occurs exactly once in the values at
+/// unread linear output ports of the open regions, and no other qubit occurs there; each value in a fired list has its
+/// port's type; the feeders of each node that has fired or runs are in the list, and so are the sources of its order
+/// links; no node stands twice in a list, and a running child doesn't stand in it.
 pub fn valid_graphs_keep_places()
+    ensures { ValidGraphsKeepPlaces }
+{}
+
+/// The run that writes its moments down is the plain run.
+pub fn moments_change_nothing()
+    ensures { MomentsChangeNothing }
+{}
+
+/// A run of a valid graph from proper arguments is never stuck. Where it returns, the outputs have their types, the live
+/// qubits of the run are those of its outputs, each of which stands there once, and no other qubit has changed.
+pub fn valid_graphs_end_well()
+    ensures { ValidGraphsEndWell }
+{}
+
+/// The events of a run of whatever graph name live qubits only, and none twice in a gate; they lead from the live
+/// qubits before the run to those after it.
+pub fn runs_are_clean()
+    ensures { RunsAreClean }
+{}
+
+/// A function of a valid graph that has no inputs and no linear output holds no qubit where its run returns.
+pub fn closed_runs_hold_none()
+    ensures { ClosedRunsHoldNone }
+{}
+
+/// In a valid ordered graph the run under any picks is the run under none: the same events, the same end with the same
+/// values, and the same world after it.
+pub fn picks_change_nothing()
+    ensures { PicksChangeNothing }
+{}
+
+/// More turns and a greater depth than a run needs change no run of a valid graph.
+pub fn bounds_suffice()
+    ensures { BoundsSuffice }
+{}
+
+/// The run of a node of a valid graph is what its op does with the runs of further nodes, without bounds.
+pub fn runs_unfold()
+    ensures { RunsUnfold }
+{}
+
+/// In a valid ordered graph a region may be run by firing any ready node first.
+pub fn any_ready_first()
+    ensures { AnyReadyFirst }
+{}
+
+/// Of a graph that isn't valid one rule and one node are named: the least rule that is broken, and the least node that
+/// breaks it. None is in a valid graph.
+pub fn one_is_broken()
+    ensures { OneIsBroken }
+{}
+
+/// Whole numbers keep 64 bits with a sign, and are divided towards minus infinity.
+pub fn numbers_are()
+    ensures { NumbersAre }
+{}
+
+/// The runs of four small graphs under some turns, outcomes and picks.
+pub fn samples_run()
+    ensures { SamplesRun }
+{}
+
+/// The four graphs are valid, and all but one are ordered: so the laws speak of something.
+pub fn samples_are_valid()
+    ensures { SamplesAreValid }
 {}

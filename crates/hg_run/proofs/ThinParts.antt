@@ -2,7 +2,7 @@
 use Rattle.std.proofs.Common.{◌≡◌, ◌↔◌, ℕ, zero, suc, ◌+◌, ◌-◌, ◌*◌, ◌<◌, List, [], ◌∷◌, ◌++◌, length, map, take, drop, slice_get, Some, refl, sym, ap, ap₂, ◌∙◌, arith, length-drop}
 use Rattle.std.proofs.lemmas.List.{drop_more, drop_all, take-append-drop}
 use Rattle.std.proofs.lemmas.Option.{get_or_from_slice_get, slice_get-get_or, slice_get_within}
-use Rattle.hg_graph.specs.Op as op
+use Rattle.hg_ops.specs.Op as op
 use Rattle.hg_graph.specs.Graph.{Node, Link, Graph, op_of, op_at, parent_of, parent_at}
 use Rattle.hg_graph.specs.Thin.{ThinGate, H, X, gate_op, in_main, chain, thin_graph}
 use Rattle.hg_run.specs.ThinRun.{IsThinGraph}
@@ -42,19 +42,19 @@ node_found g n node found = (ap op_of found, ap parent_of found)
 
 -- ---- the nodes behind the first ones
 
-gate_stays : (gate : ThinGate) → gate_op gate ≡ op.Free → ⊥
+gate_stays : (gate : ThinGate) → gate_op gate ≡ op.Ext op.Free → ⊥
 gate_stays H e = cc
 gate_stays X e = cc
 
-some_left : (gates : List ThinGate) → [] ≡ map in_main (map gate_op gates ++ op.Free ∷ []) → ⊥
+some_left : (gates : List ThinGate) → [] ≡ map in_main (map gate_op gates ++ op.Ext op.Free ∷ []) → ⊥
 some_left [] e = cc
 some_left (gate ∷ gates) e = cc
 
 module _ (xs : List Node) (k : ℕ) where
-  behind_gate : (gate : ThinGate) (gates : List ThinGate) → slice_get xs k ≡ Some (in_main (gate_op gate)) → drop k xs ≡ map in_main (map gate_op gates ++ op.Free ∷ []) → IsThinTail (drop (k + 1) xs)
+  behind_gate : (gate : ThinGate) (gates : List ThinGate) → slice_get xs k ≡ Some (in_main (gate_op gate)) → drop k xs ≡ map in_main (map gate_op gates ++ op.Ext op.Free ∷ []) → IsThinTail (drop (k + 1) xs)
   behind_gate gate [] found left =
       let here = drop_found xs k (in_main (gate_op gate)) found in
-      let same : in_main (gate_op gate) ≡ in_main op.Free = cc in
+      let same : in_main (gate_op gate) ≡ in_main (op.Ext op.Free) = cc in
       absurd (gate_stays gate (ap (λ (n : Node). n.op) same))
   behind_gate gate (first ∷ gates) found left = (gates, (first_left xs k (in_main (gate_op first)) _ left).1)
 
@@ -64,21 +64,21 @@ module _ (xs : List Node) (k : ℕ) where
     λ (gates, left). behind_gate gate gates found left,
   )
 
-  gate_first : (gates : List ThinGate) → k + 1 < length xs → drop k xs ≡ map in_main (map gate_op gates ++ op.Free ∷ []) → (gate : ThinGate) × (slice_get xs k ≡ Some (in_main (gate_op gate)))
+  gate_first : (gates : List ThinGate) → k + 1 < length xs → drop k xs ≡ map in_main (map gate_op gates ++ op.Ext op.Free ∷ []) → (gate : ThinGate) × (slice_get xs k ≡ Some (in_main (gate_op gate)))
   gate_first [] within left = absurd (omega (arith, length-drop k xs, ap length left))
   gate_first (gate ∷ gates) within left = (gate, (first_left xs k (in_main (gate_op gate)) _ left).0)
 
   pub tail_gate : k + 1 < length xs → IsThinTail (drop k xs) → (gate : ThinGate) × (slice_get xs k ≡ Some (in_main (gate_op gate)))
   tail_gate within (gates, left) = gate_first gates within left
 
-  free_only : (gates : List ThinGate) → k + 1 ≡ length xs → drop k xs ≡ map in_main (map gate_op gates ++ op.Free ∷ []) → slice_get xs k ≡ Some (in_main op.Free)
-  free_only [] last left = (first_left xs k (in_main op.Free) [] left).0
+  free_only : (gates : List ThinGate) → k + 1 ≡ length xs → drop k xs ≡ map in_main (map gate_op gates ++ op.Ext op.Free ∷ []) → slice_get xs k ≡ Some (in_main (op.Ext op.Free))
+  free_only [] last left = (first_left xs k (in_main (op.Ext op.Free)) [] left).0
   free_only (gate ∷ gates) last left =
       absurd (some_left gates (sym (drop_all (k + 1) xs (omega arith)) ∙ (first_left xs k (in_main (gate_op gate)) _ left).1))
 
-  pub tail_last : k + 1 ≡ length xs → (slice_get xs k ≡ Some (in_main op.Free)) ↔ IsThinTail (drop k xs)
+  pub tail_last : k + 1 ≡ length xs → (slice_get xs k ≡ Some (in_main (op.Ext op.Free))) ↔ IsThinTail (drop k xs)
   tail_last last = (
-    λ found. ([], drop_found xs k (in_main op.Free) found ∙ ap (λ rest. in_main op.Free ∷ rest) (drop_all (k + 1) xs (omega arith))),
+    λ found. ([], drop_found xs k (in_main (op.Ext op.Free)) found ∙ ap (λ rest. in_main (op.Ext op.Free) ∷ rest) (drop_all (k + 1) xs (omega arith))),
     λ (gates, left). free_only gates last left,
   )
 
@@ -96,7 +96,7 @@ pub nodes_tail : (xs : List Node) → HasThinNodes xs → IsThinTail (drop 5 xs)
 unfolding thin_graph
 nodes_tail xs (gates, is) = (gates, ap (drop 5) is)
 
-length-tail : (gates : List ThinGate) → length (map in_main (map gate_op gates ++ op.Free ∷ [])) ≡ suc (length gates)
+length-tail : (gates : List ThinGate) → length (map in_main (map gate_op gates ++ op.Ext op.Free ∷ [])) ≡ suc (length gates)
 length-tail [] = refl
 length-tail (gate ∷ gates) = ap suc (length-tail gates)
 

@@ -8,7 +8,7 @@ use Rattle.gp_base.specs.declared.event.Event.TheVariants as event
 use Rattle.gp_base.specs.declared.event.GateName.TheVariants as gate
 use Rattle.gp_base.specs.EventText.{event_line, end_text}
 use Rattle.gp_base.specs.World.{start}
-use Rattle.hg_graph.specs.Op as op
+use Rattle.hg_ops.specs.Op as op
 use Rattle.hg_graph.specs.Graph.{Graph}
 use Rattle.hg_graph.specs.Thin.{ThinGate, H, X, gate_op, gate_name, in_main, thin_graph, thin_events}
 use Rattle.hg_graph.proofs.ThinRuns.{thin_graphs_run}
@@ -16,7 +16,7 @@ use Rattle.hg_run.specs.ThinRun.{IsThinGraph, main_run, text_of_run, node_line}
 
 -- the lines of the nodes behind `Alloc`
 gate_lines : (gates : List ThinGate)
-    → flat_map node_line (map in_main (map gate_op gates ++ op.Free ∷ [])) ≡ flat_map event_line (map (λ g. event.Gate1 (gate_name g) 0) gates ++ event.Free 0 ∷ [])
+    → flat_map node_line (map in_main (map gate_op gates ++ op.Ext op.Free ∷ [])) ≡ flat_map event_line (map (λ g. event.Gate1 (gate_name g) 0) gates ++ event.Free 0 ∷ [])
 gate_lines [] = refl
 gate_lines (H ∷ gates) = ap (λ lines. event_line (event.Gate1 gate.H 0) ++ lines) (gate_lines gates)
 gate_lines (X ∷ gates) = ap (λ lines. event_line (event.Gate1 gate.X 0) ++ lines) (gate_lines gates)

@@ -7,18 +7,19 @@ use Rattle.gp_base.specs.declared.event.GateName.TheVariants as gate
 use Rattle.gp_base.specs.EventText.{event_line, trace}
 use Rattle.gp_base.specs.Run.{Out, Returned, Stopped, Stop, TurnsUsed, OutcomesUsed, DivisionByZero, Stuck}
 use Rattle.gp_base.specs.World.{start}
-use Rattle.hg_graph.specs.Op.{Op, Alloc, H, X, Free}
+use Rattle.hg_ops.specs.Op.{Op, Ext, Alloc, Gate1, H, X, Free}
 use Rattle.hg_graph.specs.Graph.{Graph, Node}
-use Rattle.hg_graph.specs.Run.{State, Value, run_function}
+use Rattle.hg_graph.specs.Run.{State, run_function}
 use Rattle.hg_graph.specs.Thin.{ThinGate, thin_graph}
+use Rattle.hg_graph.specs.Value.{Value}
 
 -- the graph is the thin graph of some gates
 abbrev pub IsThinGraph : Graph → Type 0
 IsThinGraph g = (gates : List ThinGate) × (g ≡ thin_graph gates)
 
 -- the run that is told: of `main`, which is node 1 of a thin graph, with 100000 turns and no outcomes; of the nodes that are ready, the first always fires
-abbrev pub main_run : Graph → Out State (List Value)
-main_run g = run_function g 1 [] (record { world = start 100000 []; picks = [] })
+abbrev pub main_run : Graph → Out (State (Unit {0})) (List Value)
+main_run g = run_function g 1 [] (record { world = start 100000 []; picks = []; notes = tt })
 
 -- what is told of a run that stops after these events; of a run that is stuck no text is defined
 abbrev pub text_of_stop : List Event → Stop → List ℕ
@@ -28,16 +29,16 @@ text_of_stop events DivisionByZero = trace events end.DivisionByZero
 text_of_stop events Stuck = []
 
 -- what is told of a run: its trace
-abbrev pub text_of_run : Out State (List Value) → List ℕ
+abbrev pub text_of_run : Out (State (Unit {0})) (List Value) → List ℕ
 text_of_run (Returned values s) = trace s.world.events end.Returned
 text_of_run (Stopped stop s) = text_of_stop s.world.events stop
 
 -- what an op does to qubit 0
 abbrev pub event_of : Op → Option Event
-event_of Alloc = Some (event.Alloc 0)
-event_of H = Some (event.Gate1 gate.H 0)
-event_of X = Some (event.Gate1 gate.X 0)
-event_of Free = Some (event.Free 0)
+event_of (Ext Alloc) = Some (event.Alloc 0)
+event_of (Ext (Gate1 H)) = Some (event.Gate1 gate.H 0)
+event_of (Ext (Gate1 X)) = Some (event.Gate1 gate.X 0)
+event_of (Ext Free) = Some (event.Free 0)
 event_of _ = None
 
 -- the line of an event, where there is one

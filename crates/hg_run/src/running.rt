@@ -3,14 +3,15 @@
 ghost use Rattle.std.specs.Prelude.{◌≡◌, ◌≢◌, ◌≤◌, OnOk, OnErr, IsErrOf};
 ghost use Rattle.std.specs.List.{flat_map};
 ghost use Rattle.gp_base.specs.Outside.{Rose, Wrote, WrotePart};
-ghost use Rattle.hg_graph.specs.View.{op_view};
+ghost use Rattle.hg_ops.specs.OpView.{op_view};
 ghost use Rattle.hg_run.specs.ThinRun.{IsThinGraph, main_run, text_of_run, event_of, op_line, node_line};
 ghost use Rattle.hg_run.specs.declared.fault.RunFault.TheVariants as fault;
 
 use crate::fault::RunFault;
 use crate::telling::{write_end, write_event};
 use gp_base::{End, Event, Failed, GateName, Sink};
-use hg_graph::{Graph, NodeId, OpKind};
+use hg_graph::{Graph, NodeId};
+use hg_ops::OpKind;
 use std::alloc::Global;
 
 // What an op does to qubit 0.
@@ -22,7 +23,7 @@ fn event_of(op: &OpKind) -> Option<Event>
         OpKind::H => Some(Event::Gate1(GateName::H, 0)),
         OpKind::X => Some(Event::Gate1(GateName::X, 0)),
         OpKind::Free => Some(Event::Free(0)),
-        OpKind::Module | OpKind::FuncDefn { .. } | OpKind::Input | OpKind::Output => None,
+        _ => None,
     }
 }
 

@@ -2,12 +2,16 @@
 
 ghost use Rattle.std.specs.Prelude.{◌≡◌, ◌≢◌, ◌+◌, ◌-◌, ◌*◌, ◌^◌, ◌<◌, ◌↔◌, length, take, drop, slice_get, IsTrue, IfSome, IfNone};
 ghost use Rattle.hg_graph.specs.Thin.{ThinGate, gate_op, in_main, chain};
-ghost use Rattle.hg_graph.specs.View.{op_view, port_view, link_view};
+ghost use Rattle.hg_graph.specs.View.{port_view, link_view};
+ghost use Rattle.hg_ops.specs.OpView.{op_view};
+ghost use Rattle.hg_ops.specs.Op as op;
 ghost use Rattle.hg_run.specs.ThinRun.{IsThinGraph};
 ghost use Rattle.hg_run.specs.ThinShape.{op_of, thin_node, first_nodes, IsThinTail, HasThinNodes, first_port, value_link, order_link};
 ghost use Rattle.hg_run.specs.declared.shape.ThinOp as declared;
 
-use hg_graph::{Graph, Link, NodeId, OpKind, Port};
+use gp_base::Name;
+use hg_graph::{Graph, Link, NodeId, Port};
+use hg_ops::{OpKind, Row};
 
 // What a node of a thin graph does.
 #[derive(Clone, Copy, Debug, PartialEq, Eq)]
@@ -22,6 +26,13 @@ enum ThinOp {
     Free,
 }
 
+// Whether a function is called `main` and has neither arguments nor results.
+fn is_main(name: &Name, ins: &Row, outs: &Row) -> bool
+    ensures { IsTrue result ↔ (op.FuncDefn name.now ins.now outs.now ≡ op_of ThinOp.Main) }
+{
+    name.as_str() == "main" && ins.len() == 0 && outs.len() == 0
+}
+
 // What the op does in a thin graph.
 fn thin_op(op: &OpKind) -> Option<ThinOp>
     ensures some { IfSome result (λ thin. op_view op.now ≡ op_of thin) }
@@ -29,14 +40,14 @@ fn thin_op(op: &OpKind) -> Option<ThinOp>
 {
     match op {
         OpKind::Module => Some(ThinOp::Module),
-        OpKind::FuncDefn { name } if name.as_str() == "main" => Some(ThinOp::Main),
-        OpKind::FuncDefn { .. } => None,
-        OpKind::Input => Some(ThinOp::Input),
-        OpKind::Output => Some(ThinOp::Output),
+        OpKind::FuncDefn { name, ins, outs } if is_main(name, ins, outs) => Some(ThinOp::Main),
+        OpKind::Input { types } if types.len() == 0 => Some(ThinOp::Input),
+        OpKind::Output { types } if types.len() == 0 => Some(ThinOp::Output),
         OpKind::Alloc => Some(ThinOp::Alloc),
         OpKind::H => Some(ThinOp::H),
         OpKind::X => Some(ThinOp::X),
         OpKind::Free => Some(ThinOp::Free),
+        _ => None,
     }
 }
 

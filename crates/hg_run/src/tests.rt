@@ -4,7 +4,8 @@ ghost use Rattle.std.specs.Prelude.{◌≡◌, ◌<◌, length, IfOk, OnOk};
 
 use crate::{RunFault, is_thin, run_thin};
 use gp_base::{MemorySink, Name};
-use hg_graph::{Graph, NodeId, OpKind, Port};
+use hg_graph::{Graph, NodeId, Port};
+use hg_ops::{OpKind, Row};
 use std::alloc::{AllocError, Global};
 use std::test::Fail;
 
@@ -14,9 +15,12 @@ fn unlinked(alloc: Global, name: &str) -> Result<Graph, AllocError>
 {
     let mut graph = Graph::new(alloc)?;
     let name = Name::new(alloc, name)?;
-    let main = graph.add_node(OpKind::FuncDefn { name }, NodeId(0))?;
-    graph.add_node(OpKind::Input, main)?;
-    graph.add_node(OpKind::Output, main)?;
+    let (ins, outs) = (Row::new(alloc), Row::new(alloc));
+    let main = graph.add_node(OpKind::FuncDefn { name, ins, outs }, NodeId(0))?;
+    let types = Row::new(alloc);
+    graph.add_node(OpKind::Input { types }, main)?;
+    let types = Row::new(alloc);
+    graph.add_node(OpKind::Output { types }, main)?;
     graph.add_node(OpKind::Alloc, main)?;
     graph.add_node(OpKind::H, main)?;
     graph.add_node(OpKind::X, main)?;

@@ -1,22 +1,14 @@
--- What relates the world before a run to the world after it.
-use Rattle.std.proofs.Common.{◌≡◌, ℕ, zero, suc, ◌+◌, ◌<◌, ◌≤◌, ℤ, pos, Bool, true, false, cond, ltb, List, [], ◌∷◌, ◌++◌, length, Option, Some, None, refl, sym, ap, ◌∙◌, subst, arith, append_assoc, append-nil}
-use Rattle.std.specs.Prelude.{slice_get}
+-- What relates the world before a run to the world after it, over the words that change worlds.
+use Rattle.std.proofs.Common.{◌≡◌, ℕ, zero, suc, ◌+◌, ◌<◌, ◌≤◌, ℤ, Bool, true, false, cond, List, [], ◌∷◌, ◌++◌, length, Option, Some, None, refl, sym, ap, ◌∙◌, subst, arith, append_assoc, append-nil, eq-eqb}
 use Rattle.std.specs.Option.{option_and_then}
-use Rattle.std.proofs.lemmas.Bool.{eq-eqb}
-use Rattle.gp_base.specs.Clean.{flags_after_event, flags_after, IsCleanBetween, world_after, where_true}
+use Rattle.gp_base.specs.Clean.{flags_after_event, flags_after, IsCleanBetween, IsCleanWorld, world_after, where_true, WorldsStayClean}
 use Rattle.gp_base.specs.declared.event.Event.{Event}
 use Rattle.gp_base.specs.declared.event.Event.TheVariants as event
-use Rattle.gp_base.specs.declared.event.GateName.TheVariants as name
-use Rattle.gp_base.specs.Number.{is_same}
-use Rattle.gp_base.specs.Run.{Run, Out, Returned, Stopped, DivisionByZero, Stuck, go_on, ◌>>=◌, ret, stop}
-use Rattle.gp_base.specs.World.{World, next, is_live, are_two_live, are_three_live, ended, did, on_live, on_two_live, on_three_live, does, allocate, free, measure, measure_free, outcome_of, with_outcome, reset, apply_gate, apply_gate_on_two, apply_gate_on_three, rotate, take_turn, turn_of}
-use Rattle.hg_ops.specs.Op as op
-use Rattle.hg_ops.specs.Op.{Op, Extension, Division, one_qubit_name, two_qubit_name, rotation_name}
-use Rattle.hg_laws.specs.Run.{nothing, divide, divided, perform_extension, perform}
-use Rattle.hg_laws.specs.Value.{Value, Int, Qubit, Variant, truth, packed}
-use Rattle.hg_laws.proofs.Matches.{qubit_case, two_qubits_case, three_qubits_case, angle_case, int_case, two_ints_case, bool_case, two_bools_case, tuple_case}
+use Rattle.gp_base.specs.declared.event.GateName.{GateName}
+use Rattle.gp_base.specs.Run.{Run, Out, Returned, Stopped, Stop, Stuck, go_on, ◌>>=◌, ret, stop}
+use Rattle.gp_base.specs.World.{World, next, is_live, are_two_live, are_three_live, ended, did, on_live, does, allocate, free, measure, measure_free, outcome_of, reset, apply_gate, apply_gate_on_two, apply_gate_on_three, rotate, take_turn, turn_of}
 
--- A relation of worlds that holds over every step of an op: of nothing, of two steps, of an event that leaves the flags,
+-- A relation of worlds that holds over every step of a word: of nothing, of two steps, of an event that leaves the flags,
 -- of a new qubit, of one that ends, and of outcomes that are taken.
 pub record IsStep (R : World → World → Type 0) : Type 0 where
   pub same : (w : World) → R w w
@@ -37,10 +29,10 @@ module _ (R : World → World → Type 0) (S : IsStep R) where
   pub then_relates : {A B : Type 0} (m : Run World A) (k : A → Run World B) → Relates m → ((a : A) → Relates (k a)) → Relates (m >>= k)
   then_relates m k r h = record { relates = λ w. relates_on w (m w) k (r.relates w) h }
 
-  ret_relates : {A : Type 0} (a : A) → Relates (ret a)
+  pub ret_relates : {A : Type 0} (a : A) → Relates (ret a)
   ret_relates a = record { relates = λ w. S.same w }
 
-  stop_relates : {A : Type 0} (e : Rattle.gp_base.specs.Run.Stop) → Relates {A = A} (stop e)
+  pub stop_relates : {A : Type 0} (e : Stop) → Relates {A = A} (stop e)
   stop_relates e = record { relates = λ w. S.same w }
 
   -- where a test holds
@@ -51,10 +43,10 @@ module _ (R : World → World → Type 0) (S : IsStep R) where
   true_flags : (b : Bool) (flags : List Bool) → b ≡ true → where_true b flags ≡ Some flags
   true_flags b flags e = ap (λ x. where_true x flags) e
 
-  does_on : (q : ℕ) (e : Event) → ((flags : List Bool) → flags_after_event e flags ≡ where_true (is_live flags q) flags) → Relates (on_live q (does e))
+  pub does_on : (q : ℕ) (e : Event) → ((flags : List Bool) → flags_after_event e flags ≡ where_true (is_live flags q) flags) → Relates (on_live q (does e))
   does_on q e h = record { relates = λ w. if_relates w (is_live w.flags q) (is_live w.flags q) (does e w) refl (λ l. S.happens e w (h w.flags ∙ true_flags (is_live w.flags q) w.flags l)) }
 
-  free_relates : (q : ℕ) → Relates (free q)
+  pub free_relates : (q : ℕ) → Relates (free q)
   free_relates q = record { relates = λ w. if_relates w (is_live w.flags q) (is_live w.flags q) _ refl (λ l. S.ends (event.Free q) q w l (true_flags (is_live w.flags q) (ended w.flags q) l)) }
 
   measured : (q : ℕ) (w : World) (outcomes : List Bool) → is_live w.flags q ≡ true → R w (world_after (outcome_of outcomes (λ outcome v. Returned outcome (did (event.Measure q outcome) v)) w))
@@ -62,7 +54,7 @@ module _ (R : World → World → Type 0) (S : IsStep R) where
   measured q w (b ∷ outcomes) l =
       S.chain w (record w { outcomes = outcomes }) _ (S.takes outcomes w) (S.happens (event.Measure q b) (record w { outcomes = outcomes }) (true_flags (is_live w.flags q) w.flags l))
 
-  measure_relates : (q : ℕ) → Relates (measure q)
+  pub measure_relates : (q : ℕ) → Relates (measure q)
   measure_relates q = record { relates = λ w. if_relates w (is_live w.flags q) (is_live w.flags q) _ refl (measured q w w.outcomes) }
 
   measured_free : (q : ℕ) (w : World) (outcomes : List Bool) → is_live w.flags q ≡ true → R w (world_after (outcome_of outcomes (λ outcome v. Returned outcome (did (event.MeasureFree q outcome) (record v { flags = ended v.flags q }))) w))
@@ -70,57 +62,20 @@ module _ (R : World → World → Type 0) (S : IsStep R) where
   measured_free q w (b ∷ outcomes) l =
       S.chain w (record w { outcomes = outcomes }) _ (S.takes outcomes w) (S.ends (event.MeasureFree q b) q (record w { outcomes = outcomes }) l (true_flags (is_live w.flags q) (ended w.flags q) l))
 
-  measure_free_relates : (q : ℕ) → Relates (measure_free q)
+  pub measure_free_relates : (q : ℕ) → Relates (measure_free q)
   measure_free_relates q = record { relates = λ w. if_relates w (is_live w.flags q) (is_live w.flags q) _ refl (measured_free q w w.outcomes) }
 
-  two_relate : (gate : Rattle.gp_base.specs.declared.event.GateName.GateName) (p q : ℕ) → Relates (apply_gate_on_two gate p q)
+  pub two_relate : (gate : GateName) (p q : ℕ) → Relates (apply_gate_on_two gate p q)
   two_relate gate p q = record { relates = λ w. if_relates w (are_two_live w.flags p q) (are_two_live w.flags p q) _ refl (λ l. S.happens (event.Gate2 gate p q) w (true_flags (are_two_live w.flags p q) w.flags l)) }
 
-  three_relate : (gate : Rattle.gp_base.specs.declared.event.GateName.GateName) (p q r : ℕ) → Relates (apply_gate_on_three gate p q r)
+  pub three_relate : (gate : GateName) (p q r : ℕ) → Relates (apply_gate_on_three gate p q r)
   three_relate gate p q r = record { relates = λ w. if_relates w (are_three_live w.flags p q r) (are_three_live w.flags p q r) _ refl (λ l. S.happens (event.Gate3 gate p q r) w (true_flags (are_three_live w.flags p q r) w.flags l)) }
 
-  divide_relates : (which : Division) (a b : ℤ) → Relates (divide which a b)
-  divide_relates which a b = record { relates = λ w. go w (is_same b (pos 0)) }
-    where
-      go : (w : World) (c : Bool) → R w (world_after (cond c (stop DivisionByZero) (ret (Int (divided which a b) ∷ [])) w))
-      go w true = S.same w
-      go w false = S.same w
-
-  abbrev P : Run World (List Value) → Type 0
-  P m = Relates m
-
-  abbrev no : Relates {A = List Value} (stop Stuck)
-  no = stop_relates Stuck
-
-  pub extension_relates : (e : Extension) (vs : List Value) → Relates (perform_extension e vs)
-  unfolding perform_extension
-  extension_relates op.Alloc [] = then_relates allocate (λ q. ret (Qubit q ∷ [])) (record { relates = S.allocates }) (λ q. ret_relates _)
-  extension_relates op.Alloc (v ∷ vs) = no
-  extension_relates op.Free vs = qubit_case P no vs _ (λ q. then_relates (free q) nothing (free_relates q) (λ _. ret_relates []))
-  extension_relates op.MeasureFree vs = qubit_case P no vs _ (λ q. then_relates (measure_free q) (λ b. ret (truth b ∷ [])) (measure_free_relates q) (λ b. ret_relates _))
-  extension_relates op.Measure vs = qubit_case P no vs _ (λ q. then_relates (measure q) (λ b. ret (Qubit q ∷ truth b ∷ [])) (measure_relates q) (λ b. ret_relates _))
-  extension_relates op.Reset vs = qubit_case P no vs _ (λ q. then_relates (reset q) (λ _. ret (Qubit q ∷ [])) (does_on q (event.Reset q) (λ flags. refl)) (λ _. ret_relates _))
-  extension_relates (op.Gate1 gate) vs = qubit_case P no vs _ (λ q. then_relates (apply_gate (one_qubit_name gate) q) (λ _. ret (Qubit q ∷ [])) (does_on q (event.Gate1 (one_qubit_name gate) q) (λ flags. refl)) (λ _. ret_relates _))
-  extension_relates (op.Gate2 gate) vs = two_qubits_case P no vs _ (λ p q. then_relates (apply_gate_on_two (two_qubit_name gate) p q) (λ _. ret (Qubit p ∷ Qubit q ∷ [])) (two_relate (two_qubit_name gate) p q) (λ _. ret_relates _))
-  extension_relates op.Toffoli vs = three_qubits_case P no vs _ (λ p q r. then_relates (apply_gate_on_three name.Toffoli p q r) (λ _. ret (Qubit p ∷ Qubit q ∷ Qubit r ∷ [])) (three_relate name.Toffoli p q r) (λ _. ret_relates _))
-  extension_relates (op.Rotation gate) vs = angle_case P no vs _ (λ q a. then_relates (rotate (rotation_name gate) q a) (λ _. ret (Qubit q ∷ [])) (does_on q (event.Rotation (rotation_name gate) q a) (λ flags. refl)) (λ _. ret_relates _))
-  extension_relates (op.ResultInt tag) vs = int_case P no vs _ (λ a. then_relates (does (event.ResultInt tag a)) nothing (record { relates = λ w. S.happens (event.ResultInt tag a) w refl }) (λ _. ret_relates _))
-  extension_relates (op.ResultBool tag) vs = bool_case P no vs _ (λ a. then_relates (does (event.ResultBool tag a)) nothing (record { relates = λ w. S.happens (event.ResultBool tag a) w refl }) (λ _. ret_relates _))
-  extension_relates (op.Calculate which) vs = two_ints_case P no vs _ (λ a b. ret_relates _)
-  extension_relates (op.Divide which) vs = two_ints_case P no vs _ (divide_relates which)
-  extension_relates op.Negate vs = int_case P no vs _ (λ a. ret_relates _)
-  extension_relates (op.Compare which) vs = two_ints_case P no vs _ (λ a b. ret_relates _)
-  extension_relates op.Not vs = bool_case P no vs _ (λ a. ret_relates _)
-  extension_relates (op.CompareBools which) vs = two_bools_case P no vs _ (λ a b. ret_relates _)
-  extension_relates (op.Unpack types) vs = tuple_case P no vs ret (λ us. ret_relates us)
-
-  pub perform_relates : (kind : Op) (vs : List Value) → Relates (perform kind vs)
-  unfolding perform
-  perform_relates (op.Ext e) vs = extension_relates e vs
-  perform_relates (op.Tag rows k) vs = ret_relates (Variant k (packed vs) ∷ [])
-  perform_relates _ vs = stop_relates Stuck
+  pub allocate_relates : Relates allocate
+  allocate_relates = record { relates = S.allocates }
 
 -- ---- three such relations
+
 -- the turns that are left stay
 abbrev pub SameTurns : World → World → Type 0
 SameTurns w v = v.turns ≡ w.turns
@@ -202,4 +157,30 @@ clean_step = record {
   allocates = λ w. record { events = event.Alloc (next w) ∷ []; appended = refl; clean = one_event (event.Alloc (next w)) w.flags (w.flags ++ true ∷ []) (ap (λ b. where_true b (w.flags ++ true ∷ [])) (eq-eqb (length w.flags) (length w.flags) refl)) };
   ends = λ e q w l h. record { events = e ∷ []; appended = refl; clean = one_event e w.flags (ended w.flags q) h };
   takes = λ outcomes w. record { events = []; appended = sym (append-nil w.events); clean = refl };
+}
+
+-- ---- clean worlds
+stays_clean : (w v : World) → IsCleanBetween w v → IsCleanWorld w → IsCleanWorld v
+stays_clean w v b c = ap (λ es. flags_after es []) b.appended ∙ (flags_after-append w.events b.events [] w.flags c ∙ b.clean)
+
+clean_after : {A : Type 0} (m : Run World A) → Relates IsCleanBetween clean_step m → (w : World) → IsCleanWorld w → IsCleanWorld (world_after (m w))
+clean_after m h w c = stays_clean w (world_after (m w)) (h.relates w) c
+
+turn_clean : (w : World) (n : ℕ) → IsCleanWorld w → IsCleanWorld (world_after (turn_of n w))
+turn_clean w zero c = c
+turn_clean w (suc n) c = c
+
+pub worlds_stay_clean_lem : WorldsStayClean
+worlds_stay_clean_lem = record {
+  started = λ turns outcomes. refl;
+  allocated = clean_after allocate (allocate_relates IsCleanBetween clean_step);
+  freed = λ w q. clean_after (free q) (free_relates IsCleanBetween clean_step q) w;
+  gated = λ w gate q. clean_after (apply_gate gate q) (does_on IsCleanBetween clean_step q (event.Gate1 gate q) (λ flags. refl)) w;
+  gated_two = λ w gate p q. clean_after (apply_gate_on_two gate p q) (two_relate IsCleanBetween clean_step gate p q) w;
+  gated_three = λ w gate p q r. clean_after (apply_gate_on_three gate p q r) (three_relate IsCleanBetween clean_step gate p q r) w;
+  rotated = λ w gate q angle. clean_after (rotate gate q angle) (does_on IsCleanBetween clean_step q (event.Rotation gate q angle) (λ flags. refl)) w;
+  reset_to_first = λ w q. clean_after (reset q) (does_on IsCleanBetween clean_step q (event.Reset q) (λ flags. refl)) w;
+  measured = λ w q. clean_after (measure q) (measure_relates IsCleanBetween clean_step q) w;
+  measured_free = λ w q. clean_after (measure_free q) (measure_free_relates IsCleanBetween clean_step q) w;
+  turned = λ w. turn_clean w w.turns;
 }

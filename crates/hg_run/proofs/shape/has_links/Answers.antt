@@ -16,7 +16,7 @@ returns-then-not-leads_on c =
     let within : step < steps = omega arith in (
       λ no. cc,
       λ whole.
-          let left = c.loop-step.invariant.1 (whole ∙ ap (λ n. chain 4 (n - 5)) (sym c.node_count-steps.ensures)) in
+          let left = c.loop-step.invariant.1 (whole ∙ ap (λ n. chain 4 (n - 5)) (sym c.node_count-steps.ensures.count)) in
           c.if-not-leads_on.ensures.1 (chain_here c.args.graph.now.links step steps within left),
     )
 

@@ -131,3 +131,70 @@ fn feeds_from_the_first_link(rt: HostRuntime) -> Result<(), Fail> {
     assert_eq!(rt; graph.feeder(second), None);
     Ok(())
 }
+
+#[test]
+fn feeds_inputs_that_an_op_lacks(rt: HostRuntime) -> Result<(), Fail> {
+    let mut graph = qubit_graph(rt.alloc())?;
+    let far = Port {
+        node: FREE,
+        index: u64::MAX,
+    };
+    assert_eq!(rt; graph.feeder(far), None);
+    graph.link(ALLOCATED, far)?;
+    assert_eq!(rt; graph.feeder(far), Some(ALLOCATED));
+    let nowhere = Port {
+        node: NodeId(u64::MAX),
+        index: 0,
+    };
+    assert_eq!(rt; graph.feeder(nowhere), None);
+    Ok(())
+}
+
+#[test]
+fn lists_children(rt: HostRuntime) -> Result<(), Fail> {
+    let graph = qubit_graph(rt.alloc())?;
+    let children = [NodeId(2), NodeId(3), ALLOC, FREE];
+    assert_eq!(rt; graph.children(NodeId(1)), children.as_slice());
+    assert_eq!(rt; graph.children(ALLOC).len(), 0);
+    Ok(())
+}
+
+#[test]
+fn lists_order_links(rt: HostRuntime) -> Result<(), Fail> {
+    let graph = qubit_graph(rt.alloc())?;
+    assert_eq!(rt; graph.orders_from(ALLOC), [1].as_slice());
+    assert_eq!(rt; graph.orders_into(FREE), [1].as_slice());
+    assert_eq!(rt; graph.orders_into(ALLOC).len(), 0);
+    Ok(())
+}
+
+#[test]
+#[tactic(auto, unfolding(crate::specs::Graph::op_at))]
+fn lists_links_by_port(rt: HostRuntime) -> Result<(), Fail> {
+    let mut graph = Graph::new(rt.alloc())?;
+    let source = graph.add_node(OpKind::Alloc, NodeId(0))?;
+    let from = Port {
+        node: source,
+        index: 0,
+    };
+    graph.link(from, from)?;
+    graph.order(source, source)?;
+    graph.link(from, from)?;
+    assert_eq!(rt; graph.links_from(from), [0, 2].as_slice());
+    Ok(())
+}
+
+#[test]
+#[tactic(auto, unfolding(crate::specs::Graph::op_at))]
+fn lists_links_into_a_port(rt: HostRuntime) -> Result<(), Fail> {
+    let mut graph = Graph::new(rt.alloc())?;
+    let target = graph.add_node(OpKind::Free, NodeId(0))?;
+    let to = Port {
+        node: target,
+        index: 0,
+    };
+    assert_eq!(rt; graph.links_into(to).len(), 0);
+    graph.link(to, to)?;
+    assert_eq!(rt; graph.links_into(to), [0].as_slice());
+    Ok(())
+}

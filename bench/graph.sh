@@ -1,0 +1,30 @@
+#!/usr/bin/env bash
+# Times how graphs grow: the proved program `hg_bench` builds the graph of a function whose one qubit passes through
+# as many gates as it is told, node by node and link by link, and ends. Wants the program built (`rt run` in
+# crates/hg_bench builds it), bash and python3.
+#
+# For each size it prints the best wall time of three in seconds, the microseconds a gate, and the peak memory in MiB.
+# Where growing takes the same time a gate in a large graph as in a small one, the third column stays about the same.
+set -eu
+home=$(cd "$(dirname "${BASH_SOURCE[0]}")/.." && pwd)
+program=$home/crates/hg_bench/out/hg_bench
+[ -x "$program" ] || { echo "bench: build hg_bench first, by rt run in crates/hg_bench" >&2; exit 1; }
+
+python3 - "$program" <<'PY'
+import os, subprocess, sys, time
+
+program = sys.argv[1]
+print("   gates  seconds  us/gate    MiB")
+for gates in (25_000, 50_000, 100_000, 200_000):
+    best, peak = None, 0
+    for _ in range(3):
+        start = time.perf_counter()
+        child = subprocess.Popen([program, str(gates)], stdout=subprocess.DEVNULL)
+        _, status, usage = os.wait4(child.pid, 0)
+        took = time.perf_counter() - start
+        if status != 0:
+            sys.exit(f"bench: {gates} gates ended with {status}")
+        best = took if best is None else min(best, took)
+        peak = max(peak, usage.ru_maxrss / 1024)
+    print(f"{gates:8}  {best:7.3f}  {best / gates * 1e6:7.2f}  {peak:5.0f}")
+PY

@@ -1,12 +1,12 @@
 -- What relates the world before a run to the world after it, over the words that change worlds.
-use Rattle.std.proofs.Common.{◌≡◌, ℕ, zero, suc, ◌+◌, ◌<◌, ◌≤◌, ℤ, Bool, true, false, cond, List, [], ◌∷◌, ◌++◌, length, Option, Some, None, refl, sym, ap, ◌∙◌, subst, arith, append_assoc, append-nil, eq-eqb}
+use Rattle.std.proofs.Common.{◌≡◌, ℕ, zero, suc, ◌<◌, ◌≤◌, Bool, true, false, cond, List, [], ◌∷◌, ◌++◌, length, Option, Some, None, refl, sym, ap, ◌∙◌, subst, arith, append_assoc, append-nil, eq-eqb}
 use Rattle.std.specs.Option.{option_and_then}
 use Rattle.gp_base.specs.Clean.{flags_after_event, flags_after, IsCleanBetween, IsCleanWorld, world_after, where_true, WorldsStayClean}
 use Rattle.gp_base.specs.declared.event.Event.{Event}
 use Rattle.gp_base.specs.declared.event.Event.TheVariants as event
 use Rattle.gp_base.specs.declared.event.GateName.{GateName}
 use Rattle.gp_base.specs.Run.{Run, Out, Returned, Stopped, Stop, Stuck, go_on, ◌>>=◌, ret, stop}
-use Rattle.gp_base.specs.World.{World, next, is_live, are_two_live, are_three_live, ended, did, on_live, does, allocate, free, measure, measure_free, outcome_of, reset, apply_gate, apply_gate_on_two, apply_gate_on_three, rotate, take_turn, turn_of}
+use Rattle.gp_base.specs.World.{World, next, is_live, are_two_live, are_three_live, ended, did, on_live, does, allocate, free, measure, measure_free, outcome_of, reset, apply_gate, apply_gate_on_two, apply_gate_on_three, rotate, turn_of}
 
 -- A relation of worlds that holds over every step of a word: of nothing, of two steps, of an event that leaves the flags,
 -- of a new qubit, of one that ends, and of outcomes that are taken.

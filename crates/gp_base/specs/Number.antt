@@ -1,5 +1,5 @@
 -- Arithmetic on whole numbers of 64 bits with a sign. The run of a source and the run of a graph use these words.
-use Rattle.std.specs.Prelude.{ℕ, suc, ℤ, pos, negsuc, neg_ℤ, ◌+ℤ◌, ◌-ℤ◌, ◌*ℤ◌, Bool, int_lt, int_le, ◌&&◌}
+use Rattle.std.specs.Prelude.{suc, ℤ, pos, negsuc, neg_ℤ, ◌+ℤ◌, ◌-ℤ◌, ◌*ℤ◌, Bool, int_le, ◌&&◌}
 use Rattle.std.specs.Int.{w64, int_wrap, int_div_euclid}
 
 -- what 64 bits with a sign keep of a number

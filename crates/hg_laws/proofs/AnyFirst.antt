@@ -1,11 +1,10 @@
 -- In a valid ordered graph a region may be run by firing any ready node first, with no bounds in sight.
 use Rattle.std.proofs.Common.{◌≡◌, ℕ, zero, suc, ◌+◌, ◌<◌, ◌≤◌, true, List, [], ◌∷◌, length, refl, sym, ap, ◌∙◌, arith}
-use Rattle.gp_base.specs.Run.{Run, ◌>>=◌}
-use Rattle.gp_base.specs.World.{World}
+use Rattle.gp_base.specs.Run.{◌>>=◌}
 use Rattle.hg_ops.specs.Op.{outs_of, is_dataflow_container}
 use Rattle.hg_graph.specs.Graph.{Graph, In, op_at}
 use Rattle.hg_graph.specs.Ordered.{IsOrdered}
-use Rattle.hg_graph.specs.Run.{Fired, Open, outs_at, Ready, ready, no_note, fire_op, fire, firings, runs, world_out}
+use Rattle.hg_graph.specs.Run.{Fired, Open, outs_at, Ready, ready, no_note, fire, firings, runs, world_out}
 use Rattle.hg_graph.specs.Value.{Value, HaveTypes, functions}
 use Rattle.hg_laws.proofs.Runs.{bind_shows}
 use Rattle.hg_laws.proofs.Diamond.{canon, any_first}

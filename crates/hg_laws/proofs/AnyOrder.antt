@@ -2,7 +2,7 @@
 use Rattle.std.proofs.Common.{◌≡◌, ℕ, zero, suc, ◌+◌, ◌<◌, ◌≤◌, Bool, true, false, cond, ltb, List, [], ◌∷◌, ◌++◌, length, Some, refl, sym, ap, ◌∙◌, subst, arith}
 use Rattle.std.specs.Prelude.{slice_get}
 use Rattle.std.proofs.lemmas.Bool.{ltb-true}
-use Rattle.gp_base.specs.Run.{Returned, ◌>>=◌, ret, stop}
+use Rattle.gp_base.specs.Run.{Returned}
 use Rattle.gp_base.specs.World.{World}
 use Rattle.hg_ops.specs.GraphType.{sum_type}
 use Rattle.hg_ops.specs.Op.{Op, Types, FuncDefn, Dfg, Cfg, DataflowBlock, ExitBlock, Conditional, Case, TailLoop, ins_of, outs_of, is_dataflow_container, is_effect, inner_ins, inner_outs}
@@ -18,7 +18,7 @@ use Rattle.hg_laws.proofs.Children.{get_in, child_is, kid_is}
 use Rattle.hg_laws.proofs.Known.{HasRegion, Known, region_of}
 use Rattle.hg_laws.proofs.Regions.{is_region, child_greater, inner_kid}
 use Rattle.hg_laws.proofs.Typed.{TypedEnter, entry_ins, exit_of, region_at, option_same, level_typed, resume_typed}
-use Rattle.hg_laws.proofs.Alike.{Plain, Doing, at, seen, Alike, AlikeEnter, then_alike, shown, ret_alike, stuck_alike, inside_alike, again_alike, at_node_alike, at_port_alike, variant_alike}
+use Rattle.hg_laws.proofs.Alike.{at, seen, Alike, AlikeEnter, then_alike, shown, ret_alike, stuck_alike, inside_alike, again_alike, at_node_alike, at_port_alike, variant_alike}
 use Rattle.hg_laws.proofs.Order.{is_plain, any, has_effect, PureEnter, any_false, firings_show, canon_pure}
 
 module _ (g : Graph) (V : Known g) (inside again : Enter (Unit {0})) (TI : TypedEnter g inside) (TA : TypedEnter g again) (D : ℕ) (AI : AlikeEnter g D inside) (AA : AlikeEnter g (length g.nodes) again) (PI : PureEnter g D inside) where

@@ -3,7 +3,7 @@ use Rattle.std.proofs.Common.{◌≡◌, ◌⊎◌, inl, inr, ℕ, suc, ◌+◌,
 use Rattle.std.specs.Prelude.{slice_index_or}
 use Rattle.std.proofs.lemmas.Bool.{cases_lt}
 use Rattle.hg_graph.specs.Graph.{Graph}
-use Rattle.hg_graph.specs.Valid.{Rule, Places, Children, Boundaries, Blocks, Cases, Links, Inputs, LinearOutputs, SameParent, NoCycle, Successors, StaticLinks, Callees, Names, VariantsAndTags, number_of, Keeps, IsValid, IsBroken}
+use Rattle.hg_graph.specs.Valid.{Rule, Places, Children, Boundaries, Blocks, Cases, Links, Inputs, LinearOutputs, SameParent, NoCycle, Successors, StaticLinks, Callees, Names, VariantsAndTags, number_of, IsBroken}
 use Rattle.hg_laws.specs.Laws.{OneIsBroken}
 
 rules : List Rule

@@ -1,7 +1,6 @@
 -- Children of a node.
-use Rattle.std.proofs.Common.{◌≡◌, ◌≢◌, ◌⊎◌, inl, inr, ℕ, zero, suc, ◌<◌, Bool, true, false, not, ◌&&◌, eqb, List, [], ◌∷◌, length, Some, refl, sym, ap, ap₂, ◌∙◌, subst, arith}
+use Rattle.std.proofs.Common.{◌≡◌, ◌≢◌, inl, inr, ℕ, zero, suc, ◌<◌, Bool, true, false, not, ◌&&◌, eqb, List, [], ◌∷◌, length, Some, refl, ap₂, arith}
 use Rattle.std.specs.Prelude.{slice_get}
-use Rattle.std.proofs.lemmas.Bool.Decides.{eqb_tells}
 use Rattle.std.proofs.lemmas.Bool.{eqb-true, eq-eqb}
 use Rattle.hg_ops.specs.Op.{fires}
 use Rattle.hg_graph.specs.Graph.{Graph, In, op_at, parent_at, children, firing_children, numbers}
@@ -49,4 +48,3 @@ is_kid g c n i f = In-filter_back (λ m. fires (op_at g m)) (children g c) n i f
 pub firing_children_distinct : (g : Graph) (c : ℕ) → Distinct (firing_children g c)
 unfolding firing_children children
 firing_children_distinct g c = Distinct-filter (λ m. fires (op_at g m)) _ (Distinct-filter _ _ (Distinct-numbers 0 (length g.nodes)))
-

@@ -8,7 +8,7 @@ use Rattle.hg_ops.specs.Op.{Op, FuncDefn, Const, Dfg, Cfg, DataflowBlock, ExitBl
 use Rattle.hg_graph.specs.Graph.{Graph, Port, op_at, children, firing_children, feeder, taker, static_input}
 use Rattle.hg_graph.specs.Run.{Fired, Open, outs_at, inputs, ready, perform, State, Note, with_world, on_world, choose, pick_from, or_stuck, at_moment, Enter, at_node, at_port, with_variant, constant, after_turn, fire_op, fire, firings, region, after_round, jump, enter_op, level, resume, runs, no_note, world_out, run_function, graph_run}
 use Rattle.hg_graph.specs.Value.{Value, Variant, values}
-use Rattle.gp_base.proofs.Steps.{IsStep, Relates, clean_step, clean_same}
+use Rattle.gp_base.proofs.Steps.{IsStep, Relates, clean_step}
 use Rattle.hg_laws.proofs.Ops.{perform_relates}
 
 abbrev state_after : {N A : Type 0} → Out (State N) A → State N

@@ -1,18 +1,16 @@
 -- Qubits that go into an op come out of it, or are made or given up.
-use Rattle.std.proofs.Common.{◌≡◌, ◌⊎◌, inl, inr, ℕ, zero, suc, ◌+◌, ◌<◌, ◌≤◌, ℤ, pos, Bool, true, false, cond, not, ◌&&◌, eqb, List, [], ◌∷◌, ◌++◌, length, Option, Some, None, refl, sym, ap, ap₂, ◌∙◌, subst, arith}
+use Rattle.std.proofs.Common.{◌≡◌, ℕ, zero, suc, ◌+◌, ◌≤◌, ℤ, pos, Bool, true, false, cond, not, ◌&&◌, eqb, List, [], ◌∷◌, ◌++◌, length, refl, sym, ap, ap₂, ◌∙◌, subst, arith}
 use Rattle.std.proofs.lemmas.Bool.{eq-eqb}
 use Rattle.std.proofs.Math.Dec.{eqb-zero-suc, eqb-suc-zero, eqb-suc-suc}
 use Rattle.gp_base.specs.Clean.{world_after}
 use Rattle.gp_base.specs.declared.event.Event.TheVariants as event
-use Rattle.gp_base.specs.declared.event.GateName.TheVariants as name
 use Rattle.gp_base.specs.Number.{is_same}
 use Rattle.gp_base.specs.Run.{Run, Out, Returned, Stopped, TurnsUsed, OutcomesUsed, DivisionByZero, Stuck, go_on, ◌>>=◌, ret, stop}
 use Rattle.gp_base.specs.World.{World, is_live, are_two_live, are_three_live, ended, did, next, outcome_of}
-use Rattle.hg_ops.specs.GraphType as type
 use Rattle.hg_ops.specs.Op as op
 use Rattle.hg_ops.specs.Op.{Extension, Division, extension_ins, one_qubit_name, two_qubit_name, rotation_name}
 use Rattle.hg_graph.specs.Moments.{once_if, EndsWell}
-use Rattle.hg_graph.specs.Run.{nothing, divide, divided, calculated, compared, compared_bools, if_truth, perform_extension}
+use Rattle.hg_graph.specs.Run.{nothing, divide, divided, compared_bools, if_truth, perform_extension}
 use Rattle.hg_graph.specs.Value.{Value, Int, Qubit, Variant, values, truth, Functions, HaveTypes, uses, uses_all}
 use Rattle.hg_laws.proofs.Values.{uses-values}
 use Rattle.hg_laws.proofs.Forms.{qubit_form, two_qubits_form, three_qubits_form, angle_form, int_form, two_ints_form, bool_form, two_bools_form, tuple_form, truth-of}

@@ -4,7 +4,7 @@ use Rattle.std.specs.Prelude.{slice_get}
 use Rattle.std.proofs.lemmas.Bool.Decides.{eqb_tells}
 use Rattle.std.proofs.lemmas.Bool.{eqb-true, eq-eqb}
 use Rattle.hg_ops.specs.GraphType.{GraphType, is_linear}
-use Rattle.hg_ops.specs.Op.{Types, ins_of, outs_of}
+use Rattle.hg_ops.specs.Op.{ins_of, outs_of}
 use Rattle.hg_graph.specs.Graph.{Graph, In, op_at, firing_children}
 use Rattle.hg_graph.specs.Moments.{yet_to_fire, IsPartway}
 use Rattle.hg_graph.specs.Run.{Look, has_fired, value_at, cons_both, inputs, Ready, ready}
@@ -33,6 +33,18 @@ partway_sound g c i look n p = record {
   closed_order = λ l il h. p.closed l.before l.after (pair_edge g l il) h;
   input = p.entered;
   count = p.count_is;
+}
+
+pub sound_partway : (g : Graph) (c i : ℕ) (look : Look) (n : ℕ) → Sound g c i look n → IsPartway g c i look n
+sound_partway g c i look n s = record {
+  within = s.who;
+  typed = s.typed;
+  closed = λ a b e h. elim (edge_cases g a b e) [
+    | inl x ↦ ap (has_fired look) (sym x.2) ∙ s.closed x.0 x.1 (ap (has_fired look) x.3 ∙ h)
+    | inr x ↦ ap (has_fired look) (sym x.2) ∙ s.closed_order x.0 x.1 (ap (has_fired look) x.3 ∙ h)
+  ];
+  entered = s.input;
+  count_is = s.count;
 }
 
 pub record IsRegion (g : Graph) (c i o : ℕ) : Type 0 where

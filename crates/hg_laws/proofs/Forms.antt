@@ -1,6 +1,5 @@
 -- The forms of values of given types.
-use Rattle.std.proofs.Common.{◌≡◌, ℕ, zero, suc, ℤ, Bool, true, false, not, List, [], ◌∷◌, Option, Some, None, refl, sym, ap, ap₂, ◌∙◌, subst}
-use Rattle.std.specs.Prelude.{slice_get}
+use Rattle.std.proofs.Common.{◌≡◌, ℕ, zero, suc, ℤ, Bool, true, false, not, List, [], ◌∷◌, Some, refl, ap, ap₂, ◌∙◌}
 use Rattle.gp_base.specs.Run.{Returned}
 use Rattle.gp_base.specs.World.{World}
 use Rattle.hg_ops.specs.GraphType as type

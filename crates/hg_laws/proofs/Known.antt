@@ -1,19 +1,17 @@
 -- What is used of a valid graph.
-use Rattle.std.proofs.Common.{◌≡◌, ◌≢◌, ◌⊎◌, inl, inr, ℕ, zero, suc, ◌+◌, ◌-◌, ◌<◌, ◌≤◌, Bool, true, false, cond, not, ◌&&◌, eqb, ltb, ℤ, List, [], ◌∷◌, ◌++◌, length, map, Option, Some, None, refl, sym, ap, ap₂, ◌∙◌, subst, arith}
+use Rattle.std.proofs.Common.{◌≡◌, ◌≢◌, ◌⊎◌, inl, inr, ℕ, zero, suc, ◌<◌, Bool, true, false, cond, ltb, ℤ, List, [], ◌∷◌, ◌++◌, length, map, Option, Some, refl, sym, ap, ap₂, ◌∙◌, subst, arith}
 use Rattle.std.specs.Prelude.{slice_get}
-use Rattle.std.proofs.lemmas.Bool.Decides.{eqb_tells}
 use Rattle.std.proofs.lemmas.Bool.{cases_lt, lt-ltb}
 use Rattle.std.proofs.lemmas.Option.{slice_get_past}
 use Rattle.hg_ops.specs.GraphType.{GraphType, is_linear}
-use Rattle.hg_ops.specs.Op as op
-use Rattle.hg_ops.specs.Op.{Op, Types, Module, FuncDefn, Const, Input, Output, Dfg, Cfg, DataflowBlock, ExitBlock, Conditional, Case, TailLoop, Tag, Call, LoadConstant, Ext, PortKind, ValuePort, ControlPort, FunctionPort, ConstantPort, ins_of, outs_of, other_inputs, other_outputs, input_ports, output_ports, is_dataflow_container, is_operation, inner_ins, inner_outs}
-use Rattle.hg_graph.specs.Graph.{Graph, Port, Link, Ports, Order, In, IsGraph, LinkIsWithin, is_port, op_of, op_at, parent_at, children, feeder, taker, links_into, links_from, static_input}
+use Rattle.hg_ops.specs.Op.{Op, Types, Module, FuncDefn, Const, Input, Output, Dfg, Cfg, DataflowBlock, ExitBlock, Conditional, Case, TailLoop, Tag, Call, LoadConstant, Ext, PortKind, ValuePort, ControlPort, ConstantPort, ins_of, outs_of, other_inputs, other_outputs, input_ports, output_ports, is_dataflow_container, is_operation, inner_ins, inner_outs}
+use Rattle.hg_graph.specs.Graph.{Graph, Port, Link, Ports, Order, In, is_port, op_of, op_at, parent_at, children, feeder, taker, static_input}
 use Rattle.hg_graph.specs.Valid
 use Rattle.hg_graph.specs.Valid.{IsValid, Keeps, KeepsBlocks, KeepsCases, KeepsSuccessors, KeepsStatic, KeepsCallee, KeepsTags, HasPlace, HasBoundary, HasBlocks, HasCase, HasCases, HasStatic, HasConstant, HasCallee, HasSuccessor, JoinsPorts, JoinsNodes, LinksJoin, LinksStayInside, Edge, Path, edge, joined, along_value, along_order, may_stand_in, stands_in_region, is_boundary, is_output, is_input, is_exit, is_block, is_local, block_ins}
 use Rattle.hg_laws.proofs.Lists.{get_within}
 use Rattle.hg_laws.proofs.Looks.{not_both}
 use Rattle.hg_laws.proofs.Wires.{Wire, Pair, value_links, order_links, wires_into, wires_from, node_after, at_index, is_port_true, node_of, into_same, from_same, after_same, wire_link, pair_link}
-use Rattle.hg_laws.proofs.Children.{get_in, child_is, is_child}
+use Rattle.hg_laws.proofs.Children.{child_is, is_child}
 
 -- what may stand in a region beside `Input` and `Output`
 abbrev pub is_inner : Op → Bool

@@ -1,5 +1,5 @@
 -- What holds of an op's run for values of the kinds that it takes, and for a stuck one, holds for all values.
-use Rattle.std.proofs.Common.{ℕ, zero, suc, ℤ, Bool, List, [], ◌∷◌, Option, Some, None}
+use Rattle.std.proofs.Common.{ℕ, zero, ℤ, Bool, List, [], ◌∷◌, Option, Some, None}
 use Rattle.gp_base.specs.Run.{Run, Stuck, stop}
 use Rattle.gp_base.specs.World.{World}
 use Rattle.hg_graph.specs.Run.{with_qubit, with_two_qubits, with_three_qubits, with_angle, with_int, with_two_ints, if_truth, with_bool, with_two_bools, with_tuple}

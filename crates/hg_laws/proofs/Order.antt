@@ -1,10 +1,10 @@
 -- Ordered regions: whatever is picked, the same is seen.
-use Rattle.std.proofs.Common.{◌≡◌, ◌≢◌, ◌⊎◌, inl, inr, ℕ, zero, suc, ◌+◌, ◌-◌, ◌%◌, ◌<◌, ◌≤◌, Bool, true, false, ◌||◌, ℤ, List, [], ◌∷◌, length, Option, Some, None, refl, sym, ap, ap₂, ◌∙◌, subst, arith}
+use Rattle.std.proofs.Common.{◌≡◌, ◌≢◌, ◌⊎◌, inl, inr, ℕ, zero, suc, ◌+◌, ◌%◌, ◌<◌, ◌≤◌, Bool, true, false, ◌||◌, ℤ, List, [], ◌∷◌, length, Option, Some, None, refl, sym, ap, ◌∙◌, subst, arith}
 use Rattle.std.specs.Prelude.{slice_index_or}
 use Rattle.std.proofs.Math.Path.{fun_ext}
 use Rattle.std.proofs.lemmas.Bool.Decides.{eqb_tells}
 use Rattle.std.proofs.Math.Nat.{mod-lt}
-use Rattle.gp_base.specs.Run.{Run, Out, Returned, Stopped, Stuck, go_on, ◌>>=◌, ret, stop}
+use Rattle.gp_base.specs.Run.{Run, Returned, Stuck, go_on, ◌>>=◌, ret, stop}
 use Rattle.gp_base.specs.World.{World, start}
 use Rattle.hg_ops.specs.Op.{Op, Module, FuncDefn, Const, Input, Output, Dfg, Cfg, DataflowBlock, ExitBlock, Conditional, Case, TailLoop, Tag, Call, LoadConstant, Ext, ins_of, outs_of, fires, is_dataflow_container, is_effect}
 use Rattle.hg_graph.specs.Graph.{Graph, Port, In, op_at, children, firing_children, feeder, static_input}
@@ -12,7 +12,7 @@ use Rattle.hg_graph.specs.Ordered.{HasEffect, own, inside, IsOrdered}
 use Rattle.hg_graph.specs.Run.{Fired, Open, Look, outs_at, has_fired, inputs, Ready, ready, perform, no_note, on_world, choose, pick_from, or_stuck, at_moment, Enter, at_port, constant, fire_op, fire, firings, world_out}
 use Rattle.hg_graph.specs.Valid.{Edge, Path, edge, joined}
 use Rattle.hg_graph.specs.Value.{Value, Int, Variant, packed, HaveTypes, functions}
-use Rattle.hg_laws.proofs.Runs.{Giving, Gives, Shows, bind_shows}
+use Rattle.hg_laws.proofs.Runs.{Giving, Shows, bind_shows}
 use Rattle.hg_laws.proofs.Values.{or_false}
 use Rattle.hg_laws.proofs.Wires.{order_links, edge_cases}
 use Rattle.hg_laws.proofs.Forms.{pure_extension}

@@ -1,15 +1,12 @@
 -- One place for each qubit at each moment, and how runs end, in the words of the laws.
-use Rattle.std.proofs.Common.{◌≡◌, ◌⊎◌, inl, inr, ℕ, zero, suc, ◌+◌, ◌-◌, ◌<◌, ◌≤◌, Bool, true, false, cond, ◌&&◌, ◌||◌, ltb, leb, List, [], ◌∷◌, length, refl, sym, ap, ap₂, ◌∙◌, subst, arith}
+use Rattle.std.proofs.Common.{◌≡◌, ◌⊎◌, inl, inr, ℕ, zero, suc, ◌+◌, ◌-◌, ◌<◌, ◌≤◌, Bool, true, false, ◌&&◌, ◌||◌, ltb, leb, List, [], ◌∷◌, length, refl, sym, ap, ap₂, ◌∙◌, subst, arith}
 use Rattle.std.proofs.lemmas.Bool.{ltb-true, lt-ltb, leb-true, le-leb, cases_lt}
 use Rattle.gp_base.specs.Run.{Out, Returned, Stopped, TurnsUsed, OutcomesUsed, DivisionByZero, Stuck}
-use Rattle.gp_base.specs.World.{World, start, is_live, next}
-use Rattle.hg_ops.specs.GraphType.{GraphType, is_linear}
-use Rattle.hg_ops.specs.Op.{Types, FuncDefn}
-use Rattle.hg_graph.specs.Graph.{Graph, In, op_at}
+use Rattle.gp_base.specs.World.{World, start, is_live}
+use Rattle.hg_graph.specs.Graph.{Graph}
 use Rattle.hg_laws.specs.Laws.{ValidGraphsKeepPlaces, MomentsChangeNothing, ValidGraphsEndWell, ClosedRunsHoldNone}
-use Rattle.hg_graph.specs.Moments.{Moment, write_down, noted_run, is_own, once_if, HasOnePlace, EachMoment, IsProper, ReturnsItsQubits, EndsWell, notes_of, unread}
+use Rattle.hg_graph.specs.Moments.{write_down, noted_run, is_own, once_if, HasOnePlace, EachMoment, IsProper, ReturnsItsQubits, EndsWell, notes_of, unread}
 use Rattle.hg_graph.specs.Run.{Open, State, no_note, Note, resume, runs, world_out, run_function, graph_run}
-use Rattle.hg_graph.specs.Valid.{IsValid}
 use Rattle.hg_graph.specs.Value.{Value, HaveTypes, functions, uses_all}
 use Rattle.hg_laws.proofs.Runs.{Giving, Gives}
 use Rattle.hg_laws.proofs.Values.{no_qubits}
@@ -17,7 +14,7 @@ use Rattle.gp_base.proofs.Steps.{IsLater, later_step}
 use Rattle.hg_laws.proofs.Known.{Known, known}
 use Rattle.hg_laws.proofs.Typed.{exit_of, entry_ins, resume_typed}
 use Rattle.hg_laws.proofs.Counts.{lives, at_most_once}
-use Rattle.hg_laws.proofs.Safe.{Balanced, Placed, Safely, Leaves, elsewhere, open_none, can_enter, resume_safe}
+use Rattle.hg_laws.proofs.Safe.{Balanced, Placed, Safely, elsewhere, open_none, can_enter, resume_safe}
 use Rattle.hg_laws.proofs.Ports.{all_ports}
 use Rattle.hg_laws.proofs.Mirrors.{runs_mirror}
 

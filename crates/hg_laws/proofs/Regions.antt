@@ -1,13 +1,13 @@
 -- The region of a container in a valid graph.
-use Rattle.std.proofs.Common.{◌≡◌, ◌≢◌, ◌⊎◌, inl, inr, ℕ, zero, suc, ◌<◌, Bool, true, false, not, ◌&&◌, eqb, List, [], ◌∷◌, length, Some, refl, sym, ap, ap₂, ◌∙◌, subst, arith}
+use Rattle.std.proofs.Common.{◌≡◌, ◌≢◌, ◌⊎◌, inl, inr, ℕ, ◌<◌, true, length, Some, refl, sym, ap, ◌∙◌, subst, arith}
 use Rattle.std.specs.Prelude.{slice_get}
 use Rattle.std.proofs.lemmas.Bool.Decides.{eqb_tells}
 use Rattle.hg_ops.specs.GraphType.{GraphType}
 use Rattle.hg_ops.specs.Op.{Op, Types, Module, Input, Output, Const, ins_of, outs_of, fires, is_dataflow_container, is_operation, inner_ins, inner_outs}
 use Rattle.hg_graph.specs.Graph.{Graph, In, op_at, parent_at, children, firing_children}
-use Rattle.hg_graph.specs.Valid.{is_output, is_input, HasBoundary}
+use Rattle.hg_graph.specs.Valid.{is_output, is_input}
 use Rattle.hg_laws.proofs.Looks.{not_both}
-use Rattle.hg_laws.proofs.Children.{get_in, child_is, is_child, kid_is, is_kid, firing_children_distinct}
+use Rattle.hg_laws.proofs.Children.{child_is, is_child, kid_is, is_kid, firing_children_distinct}
 use Rattle.hg_laws.proofs.Known.{is_inner, HasRegion, Known}
 use Rattle.hg_laws.proofs.Flow.{IsRegion}
 

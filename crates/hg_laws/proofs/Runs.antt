@@ -1,7 +1,7 @@
 -- Runs one after another, and what is seen of the run of a graph apart from picks and notes.
-use Rattle.std.proofs.Common.{◌≡◌, ℕ, zero, suc, List, [], ◌∷◌, refl, sym, ap, ◌∙◌, subst}
-use Rattle.gp_base.specs.Run.{Run, Out, Returned, Stopped, Stop, Stuck, go_on, ◌>>=◌, ret, stop}
-use Rattle.gp_base.specs.World.{World, take_turn, turn_of}
+use Rattle.std.proofs.Common.{◌≡◌, refl, sym, ap, ◌∙◌, subst}
+use Rattle.gp_base.specs.Run.{Run, Out, Returned, Stopped, go_on, ◌>>=◌}
+use Rattle.gp_base.specs.World.{World, take_turn}
 use Rattle.hg_graph.specs.Run.{State, with_world, on_world, world_out}
 
 -- what is returned has the property

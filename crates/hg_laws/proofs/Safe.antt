@@ -1,27 +1,27 @@
 -- One place for each qubit, at each moment, and never stuck.
 use Rattle.std.proofs.Common.{◌≡◌, ◌⊎◌, inl, inr, ℕ, zero, suc, ◌+◌, ◌%◌, ◌<◌, ◌≤◌, Bool, true, false, cond, ◌||◌, ltb, eqb, ℤ, List, [], ◌∷◌, ◌++◌, length, Option, Some, None, refl, sym, ap, ◌∙◌, subst, arith}
-use Rattle.std.specs.Prelude.{slice_get, slice_index_or}
+use Rattle.std.specs.Prelude.{slice_get}
 use Rattle.std.proofs.lemmas.Bool.{eqb-true, ltb-true}
 use Rattle.std.proofs.Math.Nat.{mod-lt}
 use Rattle.gp_base.specs.Clean.{world_after}
-use Rattle.gp_base.specs.Run.{Run, Out, Returned, Stopped, TurnsUsed, OutcomesUsed, DivisionByZero, Stuck, go_on, ◌>>=◌, ret, stop}
+use Rattle.gp_base.specs.Run.{Run, Out, Returned, Stopped, TurnsUsed, OutcomesUsed, DivisionByZero, Stuck, go_on, ◌>>=◌, ret}
 use Rattle.gp_base.specs.World.{World, take_turn, turn_of}
-use Rattle.hg_ops.specs.GraphType.{GraphType, sum_type}
+use Rattle.hg_ops.specs.GraphType.{sum_type}
 use Rattle.hg_ops.specs.Op.{Op, Types, Module, FuncDefn, Const, Input, Output, Dfg, Cfg, DataflowBlock, ExitBlock, Conditional, Case, TailLoop, Tag, Call, LoadConstant, Ext, ins_of, outs_of, fires, is_dataflow_container, inner_ins, inner_outs}
 use Rattle.hg_graph.specs.Graph.{Graph, Port, In, op_at, children, firing_children, feeder, taker, static_input}
 use Rattle.hg_graph.specs.Moments.{FiredOnce, IsGoodOpen, AreGoodOpen, EndsWell}
 use Rattle.hg_graph.specs.Run.{Fired, Open, outs_at, has_fired, inputs, Ready, ready, perform, State, Note, with_world, on_world, choose, pick_from, or_stuck, at_moment, Enter, at_node, at_port, with_variant, constant, after_turn, fire_op, fire, firings, region, after_round, jump, enter_op, level, resume}
 use Rattle.hg_graph.specs.Valid.{is_block, block_ins}
-use Rattle.hg_graph.specs.Value.{Value, Int, Qubit, Variant, values, packed, HaveTypes, functions, uses_all}
+use Rattle.hg_graph.specs.Value.{Value, Int, Qubit, Variant, values, HaveTypes, functions}
 use Rattle.hg_laws.proofs.Runs.{Giving, Gives, no_types}
 use Rattle.hg_laws.proofs.Values.{uses-packed, uses-values, uses-append, have-append, variant_row}
 use Rattle.hg_laws.proofs.Wires.{value_links, order_links, edge_cases}
 use Rattle.gp_base.proofs.Steps.{IsLater, later_step, SameTurns, turns_step}
 use Rattle.hg_laws.proofs.Ops.{perform_relates}
-use Rattle.hg_laws.proofs.Looks.{IsReady, In-ready, not_both, orders_in}
+use Rattle.hg_laws.proofs.Looks.{IsReady, In-ready, orders_in}
 use Rattle.hg_laws.proofs.Flow.{IsRegion, Sound, typed_inputs, sound_plus, sound_start, some_ready, all_fed, fed_by_fired}
 use Rattle.hg_laws.proofs.Children.{get_in, child_is, kid_is}
-use Rattle.hg_laws.proofs.Known.{is_inner, HasRegion, Known, region_of}
+use Rattle.hg_laws.proofs.Known.{is_inner, Known, region_of}
 use Rattle.hg_laws.proofs.Regions.{is_region, child_greater, inner_kid}
 use Rattle.hg_laws.proofs.Typed.{entry_ins, fire_gives, region_at, level_typed, resume_typed, TypedEnter, place_in, option_same}
 use Rattle.hg_laws.proofs.Carry.{held, held_open, held_open-none, held_plus, held_start, held_end, held_running}

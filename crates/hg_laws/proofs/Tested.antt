@@ -1,10 +1,8 @@
 -- A graph that passes every test is valid, and one whose effect nodes stand on a chain is ordered.
-use Rattle.std.proofs.Common.{◌≡◌, ◌≢◌, ◌⊎◌, inl, inr, ⊎_elim, ℕ, zero, suc, ◌+◌, ◌<◌, ◌≤◌, Bool, true, false, not, ◌&&◌, ◌||◌, eqb, ltb, List, [], ◌∷◌, length, filter, Option, Some, None, is_some, refl, sym, ap, ap₂, ◌∙◌, subst, arith}
-use Rattle.std.specs.Prelude.{slice_index_or}
-use Rattle.std.proofs.lemmas.Bool.{eqb-true, ltb-true, lt-ltb, cases_lt}
-use Rattle.std.proofs.lemmas.Bool.Decides.{eqb_tells}
+use Rattle.std.proofs.Common.{◌≡◌, ◌≢◌, ◌⊎◌, inl, inr, ℕ, zero, suc, ◌+◌, ◌<◌, ◌≤◌, Bool, true, false, not, ◌&&◌, ◌||◌, eqb, ltb, List, [], ◌∷◌, length, filter, is_some, refl, sym, ap, ◌∙◌, subst, arith}
+use Rattle.std.proofs.lemmas.Bool.{eqb-true, ltb-true, cases_lt}
 use Rattle.std.proofs.lemmas.Option.{slice_get_past}
-use Rattle.hg_ops.specs.Op.{Op, Types, Module, FuncDefn, Cfg, DataflowBlock, Conditional, Call, LoadConstant, ins_of, outs_of, is_dataflow_container, is_effect}
+use Rattle.hg_ops.specs.Op.{Op, FuncDefn, Cfg, DataflowBlock, Conditional, Call, LoadConstant, ins_of, outs_of, is_dataflow_container, is_effect}
 use Rattle.hg_graph.specs.Graph.{Graph, Port, Link, Ports, Order, In, IsGraph, op_of, op_at, parent_at, children, firing_children, feeder, links_into, static_input}
 use Rattle.hg_graph.specs.Ordered.{HasEffect, own, inside, IsOrdered}
 use Rattle.hg_graph.specs.Valid

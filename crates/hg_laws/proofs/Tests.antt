@@ -1,25 +1,17 @@
 -- Tests by computation: a graph that passes them is valid, and ordered.
-use Rattle.std.proofs.Common.{◌≡◌, ◌≢◌, ◌⊎◌, inl, inr, ⊎_elim, ℕ, zero, suc, ◌+◌, ◌<◌, ◌≤◌, Bool, true, false, cond, not, ◌&&◌, ◌||◌, eqb, ltb, leb, List, [], ◌∷◌, ◌++◌, length, filter, Option, Some, None, is_some, refl, sym, ap, ap₂, ◌∙◌, subst, arith}
-use Rattle.std.specs.Prelude.{slice_get, slice_index_or, All}
+use Rattle.std.proofs.Common.{◌≡◌, ◌≢◌, ◌⊎◌, inl, inr, ℕ, zero, suc, ◌+◌, ◌<◌, Bool, true, false, not, ◌&&◌, ◌||◌, eqb, ltb, leb, List, [], ◌∷◌, ◌++◌, length, Option, Some, None, is_some, refl, sym, ap, ap₂, ◌∙◌, subst, arith}
+use Rattle.std.specs.Prelude.{slice_get, All}
 use Rattle.std.specs.Str.{bytes_eq}
-use Rattle.std.proofs.lemmas.Bool.{eqb-true, eq-eqb, ltb-true, lt-ltb, leb-true, cases_lt}
+use Rattle.std.proofs.lemmas.Bool.{eqb-true, ltb-true, lt-ltb, leb-true}
 use Rattle.std.proofs.lemmas.Bool.Decides.{eqb_tells}
-use Rattle.std.proofs.lemmas.Option.{slice_get_past}
 use Rattle.std.proofs.lemmas.Slice.Eq.{bytes_eq-Decides}
 use Rattle.gp_base.specs.Tag.{IsPrintable, IsTag}
 use Rattle.hg_ops.specs.GraphType as type
 use Rattle.hg_ops.specs.GraphType.{GraphType, Row, Rows, no_types, next, no_rows, next_row, is_linear}
-use Rattle.hg_ops.specs.Op.{Op, Types, Module, FuncDefn, Const, Input, Output, Dfg, Cfg, DataflowBlock, ExitBlock, Conditional, Case, TailLoop, Tag, Call, LoadConstant, Ext, ResultInt, ResultBool, PortKind, ValuePort, ControlPort, FunctionPort, ConstantPort, ins_of, outs_of, input_ports, output_ports, is_dataflow_container, is_operation, is_effect, inner_ins, inner_outs}
-use Rattle.hg_graph.specs.Graph.{Graph, Port, Link, Ports, Order, In, IsGraph, LinkIsWithin, op_of, op_at, parent_at, children, firing_children, feeder, taker, links_into, links_from, static_input}
-use Rattle.hg_graph.specs.Ordered.{HasEffect, own, inside, IsOrdered}
-use Rattle.hg_graph.specs.Valid
-use Rattle.hg_graph.specs.Valid.{Rule, IsValid, Keeps, KeepsBlocks, KeepsCases, KeepsSuccessors, KeepsStatic, KeepsCallee, KeepsName, KeepsTags, HasPlace, HasBoundary, HasBlocks, HasCase, HasCases, HasStatic, HasConstant, HasCallee, HasSuccessor, HasNewName, JoinsPorts, JoinsNodes, LinksJoin, LinksStayInside, Edge, Path, IsAncestor, of_child, of_further, edge, joined, along_value, along_order, may_stand_in, is_module, is_boundary, is_output, is_input, is_exit, is_block, is_local, block_ins, name_of}
-use Rattle.hg_laws.proofs.Lists.{In-filter, In-filter_back}
+use Rattle.hg_ops.specs.Op.{Op, Types, Module, FuncDefn, Const, Input, Output, Dfg, Cfg, DataflowBlock, ExitBlock, Conditional, Case, TailLoop, Tag, Call, LoadConstant, Ext, ResultInt, ResultBool, PortKind, ValuePort, ControlPort, FunctionPort, ConstantPort, ins_of, input_ports, output_ports, is_operation, inner_ins, inner_outs}
+use Rattle.hg_graph.specs.Graph.{Graph, Port, Link, Ports, Order, In, LinkIsWithin, op_at, parent_at, children, feeder, taker, links_into, links_from, static_input}
+use Rattle.hg_graph.specs.Valid.{KeepsTags, HasPlace, HasBoundary, HasBlocks, HasCases, HasStatic, HasConstant, HasCallee, HasSuccessor, LinksJoin, LinksStayInside, Path, IsAncestor, of_child, of_further, edge, joined, along_value, along_order, is_module, is_boundary, is_output, is_input, is_exit, is_block, is_local, block_ins, name_of}
 use Rattle.hg_laws.proofs.Looks.{not_both}
-use Rattle.hg_laws.proofs.Children.{child_is, kid_is}
-use Rattle.hg_laws.proofs.Known.{Known, known}
-use Rattle.hg_laws.proofs.Regions.{child_greater}
-use Rattle.hg_laws.proofs.Order.{any, has_effect}
 
 -- ---- tests of lists and numbers
 pub both : (a b : Bool) → (a && b) ≡ true → (a ≡ true) × (b ≡ true)

@@ -1,5 +1,5 @@
 -- What a run returns has its types, in whatever world.
-use Rattle.std.proofs.Common.{◌≡◌, inl, inr, ℕ, zero, suc, ◌+◌, ◌%◌, ◌<◌, Bool, true, false, cond, ltb, ℤ, List, [], ◌∷◌, ◌++◌, length, Option, Some, None, refl, sym, ap, ap₂, ◌∙◌, subst, arith, mod-lt}
+use Rattle.std.proofs.Common.{◌≡◌, inl, inr, ℕ, zero, suc, ◌%◌, ◌<◌, Bool, true, false, cond, ltb, ℤ, List, [], ◌∷◌, ◌++◌, length, Option, Some, None, refl, sym, ap, ◌∙◌, subst, arith, mod-lt}
 use Rattle.std.specs.Prelude.{slice_get, slice_index_or}
 use Rattle.gp_base.specs.Run.{Run, Out, Returned, Stopped, ◌>>=◌, ret, stop}
 use Rattle.gp_base.specs.Number.{is_same}
@@ -11,16 +11,16 @@ use Rattle.hg_ops.specs.GraphType.{GraphType, sum_type, tuple_type, bool_type}
 use Rattle.hg_ops.specs.Op as op
 use Rattle.hg_ops.specs.Op.{one_qubit_name, two_qubit_name, rotation_name, Op, Types, Extension, Module, FuncDefn, Const, Input, Output, Dfg, Cfg, DataflowBlock, ExitBlock, Conditional, Case, TailLoop, Tag, Call, LoadConstant, Ext, Division, extension_ins, extension_outs, ins_of, outs_of, is_dataflow_container, inner_ins, inner_outs}
 use Rattle.hg_graph.specs.Graph.{Graph, Port, In, op_at, parent_at, children, firing_children, feeder, taker, static_input}
-use Rattle.hg_graph.specs.Run.{Fired, Open, outs_at, inputs, Ready, ready, with_tuple, nothing, divide, divided, perform_extension, perform, State, Note, on_world, choose, pick_from, or_stuck, at_moment, Enter, at_node, at_port, with_variant, constant, after_turn, fire_op, fire, firings, region, after_round, jump, enter_op, level, resume}
-use Rattle.hg_graph.specs.Valid.{is_block, block_ins, HasBoundary}
-use Rattle.hg_graph.specs.Value.{Value, Int, Qubit, Variant, Values, no_values, value, values, packed, truth, Functions, HasType, HasRow, HaveTypes, functions}
+use Rattle.hg_graph.specs.Run.{Fired, Open, outs_at, inputs, ready, with_tuple, nothing, divide, divided, perform_extension, perform, State, Note, on_world, choose, pick_from, or_stuck, at_moment, Enter, at_node, at_port, with_variant, constant, after_turn, fire_op, fire, firings, region, after_round, jump, enter_op, level, resume}
+use Rattle.hg_graph.specs.Valid.{is_block, block_ins}
+use Rattle.hg_graph.specs.Value.{Value, Int, Qubit, Variant, values, packed, truth, Functions, HasType, HaveTypes, functions}
 use Rattle.hg_laws.proofs.Runs.{Giving, Gives, then_gives, no_types, on_world_gives}
-use Rattle.hg_laws.proofs.Values.{has_at, have-append, row_have, have_row, no_row, variant_row, row_variant}
+use Rattle.hg_laws.proofs.Values.{have-append, no_row, variant_row, row_variant}
 use Rattle.hg_laws.proofs.Matches.{qubit_case, two_qubits_case, three_qubits_case, angle_case, int_case, two_ints_case, bool_case, two_bools_case}
 use Rattle.hg_laws.proofs.Looks.{In-ready}
 use Rattle.hg_laws.proofs.Flow.{IsRegion, Sound, typed_inputs, sound_plus, sound_start}
 use Rattle.hg_laws.proofs.Children.{get_in, child_is, kid_is}
-use Rattle.hg_laws.proofs.Known.{HasRegion, Known, region_of}
+use Rattle.hg_laws.proofs.Known.{Known, region_of}
 use Rattle.hg_laws.proofs.Regions.{is_region}
 
 -- ---- the chosen one is in the list

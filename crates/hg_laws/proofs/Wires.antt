@@ -1,10 +1,8 @@
 -- Value links and order links as lists of their own, and look-ups in them.
-use Rattle.std.proofs.Common.{◌≡◌, ◌≢◌, ◌⊎◌, inl, inr, ⊎_elim, ℕ, zero, suc, ◌+◌, ◌<◌, ◌≤◌, Bool, true, false, cond, not, ◌&&◌, ◌||◌, eqb, ltb, List, [], ◌∷◌, length, filter_map, Option, Some, None, refl, sym, ap, ap₂, ◌∙◌, subst, arith}
-use Rattle.std.specs.Prelude.{slice_get}
+use Rattle.std.proofs.Common.{◌≡◌, ◌⊎◌, inl, inr, ℕ, zero, suc, ◌+◌, ◌<◌, ◌≤◌, Bool, true, false, cond, not, ◌&&◌, ◌||◌, eqb, ltb, List, [], ◌∷◌, length, filter_map, Option, Some, None, refl, sym, ap, ap₂, ◌∙◌, subst, arith}
 use Rattle.std.specs.List.{cons_option}
-use Rattle.std.proofs.lemmas.Bool.{ltb-true, lt-ltb, eqb-true, eq-eqb}
-use Rattle.std.proofs.lemmas.Bool.Decides.{eqb_tells}
-use Rattle.hg_ops.specs.Op.{ins_of, outs_of}
+use Rattle.std.proofs.lemmas.Bool.{ltb-true, lt-ltb, eqb-true}
+use Rattle.hg_ops.specs.Op.{ins_of}
 use Rattle.hg_graph.specs.Graph.{Graph, Port, Link, Ports, Order, In, op_at, is_port, feeder, taker, links_into, links_from}
 use Rattle.hg_graph.specs.Run.{Look, has_fired, value_at, value_of, cons_both, pulled, inputs, orders_kept}
 use Rattle.hg_graph.specs.Valid.{Edge, along_value, along_order}

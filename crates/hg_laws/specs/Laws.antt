@@ -1,16 +1,16 @@
 -- What holds of all runs.
-use Rattle.std.specs.Prelude.{◌≡◌, ℕ, suc, ◌<◌, ◌≤◌, Bool, true, false, List, [], ◌∷◌, length}
+use Rattle.std.specs.Prelude.{◌≡◌, ◌≢◌, ℕ, suc, ◌<◌, ◌≤◌, Bool, true, false, List, [], ◌∷◌, length, Some}
 use Rattle.gp_base.specs.Clean.{IsCleanBetween, world_after}
-use Rattle.gp_base.specs.Run.{Run, Returned, ◌>>=◌}
+use Rattle.gp_base.specs.Run.{Returned, ◌>>=◌}
 use Rattle.gp_base.specs.World.{World, start, is_live}
 use Rattle.hg_ops.specs.GraphType.{GraphType, is_linear}
-use Rattle.hg_ops.specs.Op.{Types, FuncDefn, is_dataflow_container}
-use Rattle.hg_graph.specs.Graph.{Graph, In, op_at}
-use Rattle.hg_graph.specs.Moments.{Moment, HasOnePlace, EachMoment, IsProper, ReturnsItsQubits, EndsWell, IsPartway, noted_run, notes_of}
+use Rattle.hg_ops.specs.Op.{Types, FuncDefn, ins_of, outs_of, inner_ins, inner_outs, is_dataflow_container}
+use Rattle.hg_graph.specs.Graph.{Graph, In, op_at, firing_children}
+use Rattle.hg_graph.specs.Moments.{HasOnePlace, EachMoment, IsProper, ReturnsItsQubits, EndsWell, IsPartway, noted_run, notes_of}
 use Rattle.hg_graph.specs.Ordered.{IsOrdered}
-use Rattle.hg_graph.specs.Run.{Fired, Open, outs_at, Ready, ready, State, Note, no_note, fire, firings, enter_op, level, resume, runs, world_out, graph_run}
+use Rattle.hg_graph.specs.Run.{Fired, Open, outs_at, inputs, Ready, ready, State, no_note, fire, firings, enter_op, level, resume, runs, world_out, graph_run}
 use Rattle.hg_graph.specs.Valid.{Rule, IsValid, IsBroken, HasBoundary}
-use Rattle.hg_graph.specs.Value.{Value}
+use Rattle.hg_graph.specs.Value.{Value, HaveTypes, functions}
 
 -- In a valid graph, whoever wrote it, under any picks and from proper arguments, each qubit has one place at each moment.
 abbrev pub ValidGraphsKeepPlaces : Type 0
@@ -74,3 +74,21 @@ AnyReadyFirst =
 pub record OneIsBroken : Type 0 where
   pub one : (g : Graph) (rule other : Rule) (n m : ℕ) → IsBroken g rule n → IsBroken g other m → (rule ≡ other) × (n ≡ m)
   pub none : (g : Graph) (rule : Rule) (n : ℕ) → IsValid g → IsBroken g rule n → ⊥
+
+-- What a region of a valid graph goes through as its children fire one by one: it begins partway, each firing that gives
+-- values of its types keeps it so with one child fewer to fire, something is ready while a child is to fire, and in the
+-- end `Output` has values of its types.
+pub record RegionsGoOn (g : Graph) (c : ℕ) (boundary : HasBoundary g c) : Type 0 where
+  pub begins : (arguments : List Value) → HaveTypes (functions g) arguments (inner_ins (op_at g c))
+      → IsPartway g c boundary.input (outs_at (record { node = boundary.input; outs = arguments } ∷ [])) (length (firing_children g c))
+  pub takes : (count : ℕ) (fired : List Fired) (r : Ready) → IsPartway g c boundary.input (outs_at fired) (suc count) → In r (ready g c (outs_at fired))
+      → HaveTypes (functions g) r.ins (ins_of (op_at g r.node))
+  pub fires : (count : ℕ) (fired : List Fired) (r : Ready) (outs : List Value) → IsPartway g c boundary.input (outs_at fired) (suc count) → In r (ready g c (outs_at fired))
+      → HaveTypes (functions g) outs (outs_of (op_at g r.node)) → IsPartway g c boundary.input (outs_at (record { node = r.node; outs = outs } ∷ fired)) count
+  pub goes_on : (count : ℕ) (fired : List Fired) → IsPartway g c boundary.input (outs_at fired) (suc count) → ready g c (outs_at fired) ≢ []
+  pub ends : (fired : List Fired) → IsPartway g c boundary.input (outs_at fired) 0
+      → (returned : List Value) × (inputs g (outs_at fired) boundary.output ≡ Some returned) × HaveTypes (functions g) returned (inner_outs (op_at g c))
+
+abbrev pub ValidRegionsGoOn : Type 0
+ValidRegionsGoOn =
+    (g : Graph) → IsValid g → (c : ℕ) → c < length g.nodes → is_dataflow_container (op_at g c) ≡ true → (boundary : HasBoundary g c) → RegionsGoOn g c boundary

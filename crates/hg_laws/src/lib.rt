@@ -2,7 +2,7 @@
 #![tactic(auto)]
 
 ghost use Rattle.hg_laws.specs.Samples.{NumbersAre, SamplesRun, SamplesAreValid};
-ghost use Rattle.hg_laws.specs.Laws.{ValidGraphsKeepPlaces, MomentsChangeNothing, ValidGraphsEndWell, RunsAreClean, ClosedRunsHoldNone, PicksChangeNothing, BoundsSuffice, RunsUnfold, AnyReadyFirst, OneIsBroken};
+ghost use Rattle.hg_laws.specs.Laws.{ValidGraphsKeepPlaces, MomentsChangeNothing, ValidGraphsEndWell, RunsAreClean, ClosedRunsHoldNone, PicksChangeNothing, BoundsSuffice, RunsUnfold, AnyReadyFirst, ValidRegionsGoOn, OneIsBroken};
 
 /// In a valid graph, under any picks and from proper arguments, each moment of a run keeps these facts together: each
 /// qubit that is live and was allocated in this run or came with its arguments occurs exactly once in the values at
@@ -54,6 +54,12 @@ pub fn runs_unfold()
 /// In a valid ordered graph a region may be run by firing any ready node first.
 pub fn any_ready_first()
     ensures { AnyReadyFirst }
+{}
+
+/// A region of a valid graph goes on as its children fire one by one: values have their types, something is ready while a
+/// child is to fire, and in the end its `Output` has its values.
+pub fn valid_regions_go_on()
+    ensures { ValidRegionsGoOn }
 {}
 
 /// Of a graph that isn't valid one rule and one node are named: the least rule that is broken, and the least node that

@@ -1,5 +1,4 @@
-use Rattle.std.proofs.Common.{◌≡◌, ◌-◌, ◌≤◌, length, take}
-use Rattle.gp_base.specs.Outside.{Wrote}
+use Rattle.std.proofs.Common.{◌-◌, length}
 use Rattle.gp_base.proofs.Written.{WrittenSoFar}
 use Rattle.gp_base.proofs.sink.write_all.Given as goal
 

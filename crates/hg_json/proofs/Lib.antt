@@ -3,4 +3,5 @@ pub mod Compact
 pub mod Pieces
 pub mod Plain
 pub mod Pushes
+pub mod Served
 pub mod Turns

@@ -2,6 +2,7 @@
 
 use super::*;
 use gp_tree::{BinOp, Place};
+use std::alloc::AllocError;
 use std::process::Abort;
 use std::test::Fail;
 
@@ -284,5 +285,37 @@ fn other_tokens_are_refused(rt: HostRuntime) -> Result<(), Fail> {
     for row in rows {
         assert_read(&rt, rt.alloc(), row, "")?;
     }
+    Ok(())
+}
+
+// A row of one token, many times, with another behind it.
+fn repeated(
+    alloc: Global,
+    symbol: Symbol,
+    count: u32,
+    number: i64,
+) -> Result<Vec<Token>, AllocError> {
+    let mut tokens = Vec::new(alloc);
+    for _time in 0..count {
+        tokens.push(Token::Symbol(symbol))?;
+    }
+    tokens.push(Token::Number(number))?;
+    Ok(tokens)
+}
+
+#[test]
+fn deep_lines_are_read(rt: HostRuntime) -> Result<(), Fail> {
+    let prefixes = repeated(rt.alloc(), Symbol::Minus, 599, 1)?;
+    assert!(rt; all_expressions(rt.alloc(), prefixes.as_slice()).is_ok());
+    let mut brackets = repeated(rt.alloc(), Symbol::LeftParen, 50, 1)?;
+    for _time in 0..50 {
+        brackets.push(Token::Symbol(Symbol::RightParen))?;
+    }
+    assert!(rt;
+        matches!(
+            all_expressions(rt.alloc(), brackets.as_slice()),
+            Ok(Expr::Int(1))
+        )
+    );
     Ok(())
 }

@@ -4,7 +4,7 @@
 //! tokens. The depth is how often a reading may go into brackets, behind a prefix or behind `else`; the number of
 //! tokens is always enough.
 
-ghost use Rattle.std.specs.Prelude.{◌≡◌, IfOk, map};
+ghost use Rattle.std.specs.Prelude.{◌≡◌, map};
 ghost use Rattle.gp_parse.specs.Reading as spec;
 ghost use Rattle.gp_parse.specs.Steps.{Gives, with_front};
 ghost use Rattle.gp_tree.specs.Expression.{expression};
@@ -14,10 +14,10 @@ use crate::list_end::{ListEnd, past_end};
 use crate::part_fault::PartFault;
 use crate::place::path_from;
 use crate::step::{past_symbol, past_word};
-use gp_base::{Name, Sequence, TextBytes};
+use gp_base::Name;
 use gp_lex::{Keyword, Symbol, Token};
-use gp_tree::{Expr, Exprs};
-use std::alloc::{AllocError, Global};
+use gp_tree::{Expr, Exprs, copy_name, copy_text};
+use std::alloc::Global;
 
 /// The expression at the front, and the tokens behind it.
 #[tactic(auto, unfolding(crate::specs::Reading::expression_front))]
@@ -166,7 +166,7 @@ fn atom(alloc: Global, depth: usize, tokens: &[Token]) -> Result<(Expr, &[Token]
             Some(truth) => Ok((Expr::Bool(truth), rest)),
             None => Err(PartFault::NotSpelled),
         },
-        [Token::Text(text), rest @ ..] => Ok((Expr::Text(copied(alloc, text.as_slice())?), rest)),
+        [Token::Text(text), rest @ ..] => Ok((Expr::Text(copy_text(alloc, text)?), rest)),
         [Token::Name(name), rest @ ..] => named(alloc, depth, name, rest),
         [Token::Symbol(_), ..] => match past_symbol(tokens, Symbol::LeftParen) {
             Some(rest) => expressions(alloc, depth, ListEnd::Paren, rest),
@@ -191,7 +191,7 @@ fn named<'t>(
         let (place, rest) = path_from(alloc, name, tokens)?;
         return Ok((Expr::Place(place), rest));
     };
-    let called = Name::new(alloc, name.as_str())?;
+    let called = copy_name(alloc, name)?;
     let (arguments, rest) = items(alloc, depth, ListEnd::Paren, Exprs::new(alloc), after)?;
     Ok((Expr::Call(called, arguments), rest))
 }
@@ -263,13 +263,5 @@ fn truth_of(word: Keyword) -> Option<bool>
     }
 }
 
-/// The same bytes once more.
-fn copied(alloc: Global, bytes: &[u8]) -> Result<TextBytes, AllocError>
-    ensures { IfOk result (λ copy. copy ≡ bytes.now) }
-{
-    let mut copy = Sequence::new(alloc);
-    for byte in bytes {
-        copy.push(*byte)?;
-    }
-    Ok(copy)
-}
+#[cfg(test)]
+mod tests;

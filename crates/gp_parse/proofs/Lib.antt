@@ -1,3 +1,7 @@
+pub mod FormComplete
+pub mod FormSound
+pub mod FormWords
+pub mod ListedItems
 pub mod ExpressionComplete
 pub mod ExpressionSound
 pub mod Follow

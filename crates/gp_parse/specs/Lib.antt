@@ -1,3 +1,5 @@
+pub mod FormReading
+pub mod Forms
 pub mod Grammar
 pub mod Reading
 pub mod Steps

@@ -1,6 +1,7 @@
 //! Reads source texts: so far the thin ones, whose one function takes a qubit through lines of three kinds.
 #![tactic(auto)]
 
+mod assigning;
 pub mod laws;
 mod level;
 mod list_end;

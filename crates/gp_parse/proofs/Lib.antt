@@ -8,3 +8,4 @@ pub mod Follow
 pub mod PlainTokens
 pub mod StepLemmas
 pub mod ThinLemmas
+pub mod Turns

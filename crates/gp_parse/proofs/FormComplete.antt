@@ -27,7 +27,7 @@ use Rattle.gp_parse.specs.Forms as g
 use Rattle.gp_parse.specs.Forms.{Listed, SpellsType, SpellsTypes, parameter_of, SpellsParam, SpellsPlaces, SpellsTargets, augmenting, SpellsSimple, SpellsBody, SpellsResult, IsMaybeComma, SpellsName, SpellsNames, SpellsImported, dotted, SpellsForm, HasOneForm}
 use Rattle.gp_parse.specs.Steps.{Read, ◌>>=◌, found, if_same, past_symbol, past_word, past_name}
 use Rattle.gp_parse.specs.Reading.{fields_from, path_from, past_join, chain_from, chain, past_end, expressions, named, atom, factor, comparison, inversion, whole, read, place_front, expression_front, all_expressions}
-use Rattle.gp_parse.specs.FormReading.{past_text, nothing, past_string, all_of, listed_from, listed, some_types, past_tuple, type_with, type_at, a_type, owned_mark, param, pattern_inside, pattern_outside, targets, assigning_symbol, assigning, split, assigned, declaration, past_declared, past_request, docstring, module_call, evaluated, unled, alone, returned, statement, only_simple, simple, body, result_type, def_header, class_header, tested, else_header, maybe_comma, past_range, for_header, decorator, some_names, names_from, imported, import_names, first_word, led, line}
+use Rattle.gp_parse.specs.FormReading.{past_soft_word, nothing, past_string, all_of, listed_from, listed, some_tuple, past_tuple, type_with, type_at, a_type, owned_mark, param, pattern_inside, pattern_outside, targets, assigning_symbol, assigning, split, assigned, declaration, past_declared, past_request, docstring, module_call, evaluated, unled, alone, returned, statement, only_simple, simple, body, result_type, def_header, class_header, tested, else_header, maybe_comma, past_range, for_header, decorator, some_names, names_from, imported, import_names, first_word, led, line}
 use Rattle.gp_parse.proofs.StepLemmas.{some, some_is}
 use Rattle.gp_parse.proofs.FormWords.{this_text}
 use Rattle.gp_parse.proofs.ListedItems.{ItemReads, ListReads, nothing_reads, last_reads, going_on_reads, listed_reads, all_reads}
@@ -74,7 +74,7 @@ not_tuple n rest true h = h
 not_tuple n rest false h = refl
 
 named_complete : (n : List ℕ) → TypeComplete (t.Name n ∷ []) (named_type n)
-unfolding type_at type_with past_tuple past_text past_name
+unfolding type_at type_with past_tuple past_soft_word past_name
 named_complete n = record {
   begins = record { name = n; others = []; parts = refl };
   reads = λ m rest le ends.
@@ -87,9 +87,9 @@ this_tuple : (rest : List Token) → past_tuple (t.Name (codes "tuple") ∷ t.Sy
 unfolding past_tuple past_symbol
 this_tuple rest = rw (this_text (codes "tuple") (t.Symbol s.LeftBracket ∷ rest)) refl
 
-some_read : (ys : List TypeExpression) (x : TypeExpression) (xs : TypeExpressions) (rest : List Token) → types_of ys ≡ with_type x xs → some_types (ys, rest) ≡ Some (tuple_type (with_type x xs), rest)
-some_read [] x xs rest e = absurd cc
-some_read (y ∷ ys) x xs rest e = ap (λ (z : TypeExpressions). some (tuple_type z, rest)) e
+some_read : (ys : List TypeExpression) (x : TypeExpression) (xs : TypeExpressions) → types_of ys ≡ with_type x xs → some_tuple ys ≡ Some (tuple_type (with_type x xs))
+some_read [] x xs e = absurd cc
+some_read (y ∷ ys) x xs e = ap (λ (z : TypeExpressions). some (tuple_type z)) e
 
 bracket_closes : (rest : List Token) → past_symbol s.RightBracket (t.Symbol s.RightBracket ∷ rest) ≡ Some rest
 unfolding past_symbol
@@ -110,7 +110,7 @@ tuple_complete a x xs c = record {
       let all = all_reads (type_at (m - 1)) (past_symbol s.RightBracket) (t.Symbol s.RightBracket ∷ rest) rest (bracket_closes rest) comma_in_brackets a inside.trees inside.reads in
       let tokens = t.Name (codes "tuple") ∷ t.Symbol s.LeftBracket ∷ ((a ++ t.Symbol s.RightBracket ∷ []) ++ rest) in
       let here : type_with (type_at (m - 1)) tokens ≡ Some (tuple_type (with_type x xs), rest) =
-      rw (this_tuple ((a ++ t.Symbol s.RightBracket ∷ []) ++ rest), append_assoc a (t.Symbol s.RightBracket ∷ []) rest, all) (some_read inside.trees x xs rest inside.are) in
+      rw (this_tuple ((a ++ t.Symbol s.RightBracket ∷ []) ++ rest), append_assoc a (t.Symbol s.RightBracket ∷ []) rest, all, some_read inside.trees x xs inside.are) refl in
       ap (λ (d : ℕ). type_at d tokens) turn ∙ here;
 }
 
@@ -767,11 +767,11 @@ unled_line : (a : List Token) (v : Form) → Begins a 8 → unled a ≡ Some v �
 unled_line a v b h = unled_leads a b ∙ unled_statement a b ∙ h
 
 compile_complete : (n : List ℕ) → unled (t.Name n ∷ t.Symbol s.Dot ∷ t.Name (codes "compile") ∷ t.Symbol s.LeftParen ∷ t.Symbol s.RightParen ∷ []) ≡ Some (f.module_call n)
-unfolding unled past_declared past_name past_symbol split evaluated module_call past_request past_text past_end
+unfolding unled past_declared past_name past_symbol split evaluated module_call past_request past_soft_word past_end
 compile_complete n = refl
 
 check_complete : (n : List ℕ) → unled (t.Name n ∷ t.Symbol s.Dot ∷ t.Name (codes "check") ∷ t.Symbol s.LeftParen ∷ t.Symbol s.RightParen ∷ []) ≡ Some (f.module_call n)
-unfolding unled past_declared past_name past_symbol split evaluated module_call past_request past_text past_end
+unfolding unled past_declared past_name past_symbol split evaluated module_call past_request past_soft_word past_end
 check_complete n = refl
 
 -- the form that tokens spell is what they are read as

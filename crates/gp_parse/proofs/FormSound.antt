@@ -24,7 +24,7 @@ use Rattle.gp_parse.specs.Forms as g
 use Rattle.gp_parse.specs.Forms.{Listed, SpellsType, SpellsTypes, parameter_of, SpellsParam, SpellsPlaces, SpellsTargets, augmenting, SpellsSimple, SpellsBody, SpellsResult, IsMaybeComma, SpellsName, SpellsNames, SpellsImported, dotted, SpellsForm}
 use Rattle.gp_parse.specs.Steps.{Read, ◌>>=◌, found, past_symbol, past_word, past_name}
 use Rattle.gp_parse.specs.Reading.{past_end, place_front, expression_front, all_expressions}
-use Rattle.gp_parse.specs.FormReading.{past_text, nothing, past_string, all_of, listed, some_types, past_tuple, type_with, type_at, a_type, owned_mark, param, pattern_inside, pattern_outside, targets, assigning_symbol, assigning, split, assigned, declaration, past_declared, past_request, docstring, module_call, evaluated, unled, alone, returned, statement, only_simple, simple, body, result_type, def_header, class_header, tested, else_header, maybe_comma, past_range, for_header, decorator, some_names, names_from, imported, import_names, first_word, led, line}
+use Rattle.gp_parse.specs.FormReading.{past_soft_word, nothing, past_string, all_of, listed, some_tuple, past_tuple, type_with, type_at, a_type, owned_mark, param, pattern_inside, pattern_outside, targets, assigning_symbol, assigning, split, assigned, declaration, past_declared, past_request, docstring, module_call, evaluated, unled, alone, returned, statement, only_simple, simple, body, result_type, def_header, class_header, tested, else_header, maybe_comma, past_range, for_header, decorator, some_names, names_from, imported, import_names, first_word, led, line}
 use Rattle.gp_parse.proofs.StepLemmas.{bind_some, found_some, on, off, some, some_is, symbol_is, word_is, name_is, Front, IsSound, made, joined_parts}
 use Rattle.gp_parse.proofs.FormWords.{text_is, paren_is, nothing_is, string_is}
 use Rattle.gp_parse.proofs.ListedItems.{listed_sound, to_the_end}
@@ -49,7 +49,7 @@ types_from (g.last a v d) = g.last a v d
 types_from (g.going_on a b v vs d ds) = g.going_on a b v (types_of vs) d (types_from ds)
 
 -- what stands in the brackets, and the brackets
-tuple_sound : (ts rest inside end : List Token) (vs : List TypeExpression) (x : TypeExpression × List Token) → ts ≡ t.Name (codes "tuple") ∷ t.Symbol s.LeftBracket ∷ rest → rest ≡ inside ++ t.Symbol s.RightBracket ∷ end → Listed SpellsType inside vs → some_types (vs, end) ≡ Some x → Front SpellsType ts x
+tuple_sound : (ts rest inside end : List Token) (vs : List TypeExpression) (x : TypeExpression × List Token) → ts ≡ t.Name (codes "tuple") ∷ t.Symbol s.LeftBracket ∷ rest → rest ≡ inside ++ t.Symbol s.RightBracket ∷ end → Listed SpellsType inside vs → (some_tuple vs >>= λ z. Some (z, end)) ≡ Some x → Front SpellsType ts x
 tuple_sound ts rest inside end [] x parts others is h = absurd cc
 tuple_sound ts rest inside end (v ∷ vs) x parts others is h =
     let taken = t.Name (codes "tuple") ∷ t.Symbol s.LeftBracket ∷ (inside ++ t.Symbol s.RightBracket ∷ []) in
@@ -539,7 +539,7 @@ names_from_sound (suc m) ts v h =
 name_sound : IsSound SpellsName past_name
 name_sound ts x h = record { taken = t.Name x.0 ∷ []; parts = name_is ts x h; is = g.name x.0 }
 
-grouped_sound : (rest inside end : List Token) (ns v : List (List ℕ)) → rest ≡ inside ++ t.Symbol s.RightParen ∷ end → Listed SpellsName inside ns → some_names (ns, end) ≡ Some v → SpellsImported (t.Symbol s.LeftParen ∷ rest) v
+grouped_sound : (rest inside end : List Token) (ns v : List (List ℕ)) → rest ≡ inside ++ t.Symbol s.RightParen ∷ end → Listed SpellsName inside ns → some_names ns end ≡ Some v → SpellsImported (t.Symbol s.LeftParen ∷ rest) v
 grouped_sound rest inside end [] v parts is h = absurd cc
 grouped_sound rest inside end (n ∷ ns) v parts is h =
     let b = bind_some _ _ v h in

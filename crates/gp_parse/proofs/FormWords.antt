@@ -7,15 +7,15 @@ use Rattle.gp_lex.specs.declared.token.Symbol.TheVariants as s
 use Rattle.gp_parse.specs.declared.list_end.ListEnd.TheVariants as until
 use Rattle.gp_parse.specs.Steps.{if_same}
 use Rattle.gp_parse.specs.Reading.{past_end}
-use Rattle.gp_parse.specs.FormReading.{past_text, nothing, past_string}
+use Rattle.gp_parse.specs.FormReading.{past_soft_word, nothing, past_string}
 use Rattle.gp_parse.proofs.StepLemmas.{some_is, symbol_is}
 
 if_same_is : (b : Bool) (ts rest : List Token) → if_same b ts ≡ Some rest → (b ≡ true) × (ts ≡ rest)
 if_same_is true ts rest e = (refl, some_is ts rest e)
 if_same_is false ts rest e = absurd cc
 
-pub text_is : (text : List ℕ) (ts rest : List Token) → past_text text ts ≡ Some rest → ts ≡ t.Name text ∷ rest
-unfolding past_text
+pub text_is : (text : List ℕ) (ts rest : List Token) → past_soft_word text ts ≡ Some rest → ts ≡ t.Name text ∷ rest
+unfolding past_soft_word
 text_is text [] rest e = absurd cc
 text_is text (t.Name n ∷ ts) rest e =
     let h = if_same_is (bytes_eq n text) ts rest e in
@@ -26,8 +26,8 @@ text_is text (t.Keyword y ∷ ts) rest e = absurd cc
 text_is text (t.Number y ∷ ts) rest e = absurd cc
 text_is text (t.Text y ∷ ts) rest e = absurd cc
 
-pub this_text : (text : List ℕ) (rest : List Token) → past_text text (t.Name text ∷ rest) ≡ Some rest
-unfolding past_text
+pub this_text : (text : List ℕ) (rest : List Token) → past_soft_word text (t.Name text ∷ rest) ≡ Some rest
+unfolding past_soft_word
 this_text text rest = let same : bytes_eq text text ≡ true = (bytes_eq-Decides text text).1 refl in rw same refl
 
 pub nothing_is : (ts rest : List Token) → nothing ts ≡ Some rest → (ts ≡ []) × (rest ≡ [])

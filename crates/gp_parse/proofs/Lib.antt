@@ -1,6 +1,7 @@
 pub mod FormComplete
 pub mod FormSound
 pub mod FormWords
+pub mod ListTurns
 pub mod ListedItems
 pub mod ExpressionComplete
 pub mod ExpressionSound

@@ -24,9 +24,9 @@ use Rattle.gp_parse.specs.Steps.{Read, ◌>>=◌, found, if_same, past_symbol, p
 -- ---- one token
 
 -- the tokens behind a name with this text
-unfoldable pub past_text : List ℕ → List Token → Option (List Token)
-past_text text (t.Name n ∷ ts) = if_same (bytes_eq n text) ts
-past_text text _ = None
+unfoldable pub past_soft_word : List ℕ → List Token → Option (List Token)
+past_soft_word text (t.Name n ∷ ts) = if_same (bytes_eq n text) ts
+past_soft_word text _ = None
 
 -- no tokens
 abbrev pub nothing : List Token → Option (List Token)
@@ -35,6 +35,13 @@ nothing = past_end until.Line
 -- what a front was read as, where it is all of the tokens
 abbrev pub all_of : {A : Type 0} → A × List Token → Option A
 all_of x = nothing x.1 >>= λ rest. Some x.0
+
+-- a place, and an expression, that all of the tokens are
+abbrev pub all_place : List Token → Option Place
+all_place ts = place_front ts >>= all_of
+
+abbrev pub all_expression : List Token → Option Expression
+all_expression ts = expression_front ts >>= all_of
 
 -- ---- items with commas between them, up to what closes them
 
@@ -52,17 +59,21 @@ module _ {X : Type 0} (item : Read X) (closed : List Token → Option (List Toke
 
 -- ---- types
 
-abbrev pub some_types : List TypeExpression × List Token → Option (TypeExpression × List Token)
-some_types ([], ts) = None
-some_types (x ∷ xs, ts) = Some (tuple_type (types_of (x ∷ xs)), ts)
+-- a type of tuples with one part or more
+abbrev pub some_tuple : List TypeExpression → Option TypeExpression
+some_tuple [] = None
+some_tuple (x ∷ xs) = Some (tuple_type (types_of (x ∷ xs)))
 
 -- the word `tuple` and its bracket
 unfoldable pub past_tuple : List Token → Option (List Token)
-past_tuple ts = past_text (codes "tuple") ts >>= past_symbol s.LeftBracket
+past_tuple ts = past_soft_word (codes "tuple") ts >>= past_symbol s.LeftBracket
+
+abbrev pub a_named_type : Read TypeExpression
+a_named_type ts = past_name ts >>= λ x. Some (named_type x.0, x.1)
 
 module _ (inner : Read TypeExpression) where
   unfoldable pub type_with : Read TypeExpression
-  type_with ts = found (past_tuple ts) (λ rest. listed inner (past_symbol s.RightBracket) rest >>= some_types) (past_name ts >>= λ x. Some (named_type x.0, x.1))
+  type_with ts = found (past_tuple ts) (λ rest. listed inner (past_symbol s.RightBracket) rest >>= λ xs. some_tuple xs.0 >>= λ x. Some (x, xs.1)) (a_named_type ts)
 
 -- at most so deep
 unfoldable pub type_at : ℕ → Read TypeExpression
@@ -75,7 +86,7 @@ a_type ts = type_at (suc (length ts)) ts
 -- ---- parameters
 
 unfoldable pub owned_mark : Read Bool
-owned_mark ts = found (past_symbol s.At ts) (λ rest. past_text (codes "owned") rest >>= λ rest. Some (true, rest)) (Some (false, ts))
+owned_mark ts = found (past_symbol s.At ts) (λ rest. past_soft_word (codes "owned") rest >>= λ rest. Some (true, rest)) (Some (false, ts))
 
 unfoldable pub param : Read Parameter
 param ts = past_name ts >>= λ n. past_symbol s.Colon n.1 >>= λ rest. a_type rest >>= λ x. owned_mark x.1 >>= λ y. Some (parameter_of n.0 x.0 y.0, y.1)
@@ -110,7 +121,7 @@ split (x ∷ ts) = found (assigning x) (λ y. Some ([], y, ts)) (split ts >>= λ
 
 unfoldable pub assigned : List Token × Assigning × List Token → Option Form
 assigned (left, Plain, right) = targets left >>= λ to. all_expressions right >>= λ x. Some (f.assign to x)
-assigned (left, By o, right) = (place_front left >>= all_of) >>= λ p. (expression_front right >>= all_of) >>= λ x. Some (f.augmented p o x)
+assigned (left, By o, right) = all_place left >>= λ p. all_expression right >>= λ x. Some (f.augmented p o x)
 
 -- behind a name and a colon
 unfoldable pub declaration : List ℕ → List Token → Option Form
@@ -121,7 +132,7 @@ past_declared ts = past_name ts >>= λ n. past_symbol s.Colon n.1 >>= λ rest. S
 
 -- the words that a module is asked for
 unfoldable pub past_request : List Token → Option (List Token)
-past_request ts = found (past_text (codes "compile") ts) (λ rest. Some rest) (past_text (codes "check") ts)
+past_request ts = found (past_soft_word (codes "compile") ts) (λ rest. Some rest) (past_soft_word (codes "check") ts)
 
 -- a call of a function of the module
 unfoldable pub module_call : List Token → Option (List ℕ)
@@ -187,17 +198,18 @@ unfoldable pub maybe_comma : List Token → List Token
 maybe_comma ts = found (past_symbol s.Comma ts) (λ rest. rest) ts
 
 unfoldable pub past_range : List Token → Option (List Token)
-past_range ts = past_word k.InWord ts >>= λ rest. past_text (codes "range") rest >>= past_symbol s.LeftParen
+past_range ts = past_word k.InWord ts >>= λ rest. past_soft_word (codes "range") rest >>= past_symbol s.LeftParen
 
 unfoldable pub for_header : List Token → Option Form
 for_header ts = past_name ts >>= λ n. past_range n.1 >>= λ rest. expression_front rest >>= λ x. past_symbol s.RightParen (maybe_comma x.1) >>= λ rest. body rest >>= λ y. Some (f.for_header n.0 x.0 y)
 
 unfoldable pub decorator : List Token → Option Form
-decorator ts = past_text (codes "guppy") ts >>= λ rest. found (nothing rest) (λ rest. Some f.function_decorator) (past_symbol s.Dot rest >>= λ rest. past_text (codes "struct") rest >>= alone f.struct_decorator)
+decorator ts = past_soft_word (codes "guppy") ts >>= λ rest. found (nothing rest) (λ rest. Some f.function_decorator) (past_symbol s.Dot rest >>= λ rest. past_soft_word (codes "struct") rest >>= alone f.struct_decorator)
 
-abbrev pub some_names : List (List ℕ) × List Token → Option (List (List ℕ))
-some_names ([], ts) = None
-some_names (n ∷ ns, ts) = nothing ts >>= λ rest. Some (n ∷ ns)
+-- one name or more, and no tokens behind them
+abbrev pub some_names : List (List ℕ) → List Token → Option (List (List ℕ))
+some_names [] ts = None
+some_names (n ∷ ns) ts = nothing ts >>= λ rest. Some (n ∷ ns)
 
 -- names without parentheses, for at most so many turns
 unfoldable pub names_from : ℕ → List Token → Option (List (List ℕ))
@@ -205,7 +217,7 @@ names_from zero ts = None
 names_from (suc m) ts = past_name ts >>= λ n. found (nothing n.1) (λ rest. Some (n.0 ∷ [])) (past_symbol s.Comma n.1 >>= λ rest. names_from m rest >>= λ ns. Some (n.0 ∷ ns))
 
 unfoldable pub imported : List Token → Option (List (List ℕ))
-imported ts = found (past_symbol s.LeftParen ts) (λ rest. listed past_name (past_end until.Paren) rest >>= some_names) (names_from (length ts) ts)
+imported ts = found (past_symbol s.LeftParen ts) (λ rest. listed past_name (past_end until.Paren) rest >>= λ ns. some_names ns.0 ns.1) (names_from (length ts) ts)
 
 unfoldable pub import_names : List Token → Option Form
 import_names ts = place_front ts >>= λ p. past_word k.ImportWord p.1 >>= λ rest. imported rest >>= λ ns. Some (f.import_names (dotted p.0) ns)

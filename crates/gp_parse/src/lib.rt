@@ -6,9 +6,13 @@ mod expression;
 pub mod laws;
 mod level;
 mod list_end;
+mod param;
 mod part_fault;
 mod place;
+mod soft_keyword;
 mod step;
+mod target;
 pub mod thin_text;
+mod written_type;
 
 pub use thin_text::{ThinLine, ThinLines, thin};

@@ -653,7 +653,6 @@ def_complete n a b c ps ty y d r h =
     rw (past_paren (a ++ t.Symbol s.RightParen ∷ (b ++ t.Symbol s.Colon ∷ c)), params_complete d (b ++ t.Symbol s.Colon ∷ c), result_complete r c, body_complete h) refl
 
 tested_complete : (make : Expression → MaybeForm → Form) (a b : List Token) (e : Expression) (y : MaybeForm) → Spells Whole a e → SpellsBody b y → tested make (a ++ t.Symbol s.Colon ∷ b) ≡ Some (make e y)
-unfolding tested
 tested_complete make a b e y d h = rw (expression_front_complete a e (t.Symbol s.Colon ∷ b) d refl, body_complete h) refl
 
 else_complete : (b : List Token) (y : MaybeForm) → SpellsBody b y → else_header (t.Symbol s.Colon ∷ b) ≡ Some (f.else_header y)

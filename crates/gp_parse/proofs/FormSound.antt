@@ -24,7 +24,7 @@ use Rattle.gp_parse.specs.Forms as g
 use Rattle.gp_parse.specs.Forms.{Listed, SpellsType, SpellsTypes, parameter_of, SpellsParam, SpellsPlaces, SpellsTargets, augmenting, SpellsSimple, SpellsBody, SpellsResult, IsMaybeComma, SpellsName, SpellsNames, SpellsImported, dotted, SpellsForm}
 use Rattle.gp_parse.specs.Steps.{Read, ◌>>=◌, found, past_symbol, past_word, past_name}
 use Rattle.gp_parse.specs.Reading.{past_end, place_front, expression_front, all_expressions}
-use Rattle.gp_parse.specs.FormReading.{past_soft_word, nothing, past_string, all_of, listed, some_tuple, past_tuple, type_with, type_at, a_type, owned_mark, param, pattern_inside, pattern_outside, targets, assigning_symbol, assigning, split, assigned, declaration, past_declared, past_request, docstring, module_call, evaluated, unled, alone, returned, statement, only_simple, simple, body, result_type, def_header, class_header, tested, else_header, maybe_comma, past_range, for_header, decorator, some_names, names_from, imported, import_names, first_word, led, line}
+use Rattle.gp_parse.specs.FormReading.{past_soft_word, nothing, past_string, all_of, listed, some_tuple, past_tuple, type_with, type_at, a_type, owned_mark, param, pattern_inside, pattern_outside, targets, assigning_symbol, assigning, split, assigned, declaration, past_declared, past_request, docstring, module_call, evaluated, unled, alone, returned, statement, only_simple, simple, body, result_type, def_header, class_header, test_and_body, tested, else_header, maybe_comma, past_range, for_header, decorator, some_names, names_from, imported, import_names, first_word, led, line}
 use Rattle.gp_parse.proofs.StepLemmas.{bind_some, found_some, on, off, some, some_is, symbol_is, word_is, name_is, Front, IsSound, made, joined_parts}
 use Rattle.gp_parse.proofs.FormWords.{text_is, paren_is, nothing_is, string_is}
 use Rattle.gp_parse.proofs.ListedItems.{listed_sound, to_the_end}
@@ -456,14 +456,15 @@ class_header_sound ts v h =
 
 tested_sound : (w : Keyword) (make : Expression → MaybeForm → Form) → ((a b : List Token) (x : Expression) (y : MaybeForm) → Spells Whole a x → SpellsBody b y → SpellsForm (t.Keyword w ∷ (a ++ t.Symbol s.Colon ∷ b)) (make x y)) →
     (ts : List Token) (v : Form) → tested make ts ≡ Some v → SpellsForm (t.Keyword w ∷ ts) v
-unfolding tested
 tested_sound w make is ts v h =
-    let x = bind_some _ _ v h in
-    let y = bind_some _ _ v x.2 in
+    let both = bind_some (test_and_body ts) (λ x. Some (make x.0 x.1)) v h in
+    let x = bind_some _ _ both.0 both.1 in
+    let y = bind_some _ _ both.0 x.2 in
     let a = expression_front_sound ts x.0 x.1 in
     let b = body_sound x.0.1 y.0 y.1 in
     let parts = ap (λ (z : List Token). t.Keyword w ∷ z) (a.parts ∙ ap (λ (z : List Token). a.taken ++ z) b.parts) in
-    moved SpellsForm _ (t.Keyword w ∷ ts) (make x.0.0 y.0) v parts y.2 (is a.taken b.behind x.0.0 y.0 a.is b.is)
+    let made = ap (λ (z : Expression × MaybeForm). some (make z.0 z.1)) (some_is (x.0.0, y.0) both.0 y.2) ∙ both.2 in
+    moved SpellsForm _ (t.Keyword w ∷ ts) (make x.0.0 y.0) v parts made (is a.taken b.behind x.0.0 y.0 a.is b.is)
 
 else_header_sound : (ts : List Token) (v : Form) → else_header ts ≡ Some v → SpellsForm (t.Keyword k.ElseWord ∷ ts) v
 unfolding else_header

@@ -188,8 +188,12 @@ def_header ts = past_name ts >>= λ n. past_symbol s.LeftParen n.1 >>= λ rest. 
 unfoldable pub class_header : List Token → Option Form
 class_header ts = past_name ts >>= λ n. past_symbol s.Colon n.1 >>= alone (f.class_header n.0)
 
-unfoldable pub tested : (Expression → MaybeForm → Form) → List Token → Option Form
-tested make ts = expression_front ts >>= λ x. body x.1 >>= λ y. Some (make x.0 y)
+-- a test, and the end of its header
+abbrev pub test_and_body : List Token → Option (Expression × MaybeForm)
+test_and_body ts = expression_front ts >>= λ x. body x.1 >>= λ y. Some (x.0, y)
+
+abbrev pub tested : (Expression → MaybeForm → Form) → List Token → Option Form
+tested make ts = test_and_body ts >>= λ x. Some (make x.0 x.1)
 
 unfoldable pub else_header : List Token → Option Form
 else_header ts = body ts >>= λ x. Some (f.else_header x)
@@ -216,8 +220,11 @@ unfoldable pub names_from : ℕ → List Token → Option (List (List ℕ))
 names_from zero ts = None
 names_from (suc m) ts = past_name ts >>= λ n. found (nothing n.1) (λ rest. Some (n.0 ∷ [])) (past_symbol s.Comma n.1 >>= λ rest. names_from m rest >>= λ ns. Some (n.0 ∷ ns))
 
+abbrev pub bare_names : List Token → Option (List (List ℕ))
+bare_names ts = names_from (length ts) ts
+
 unfoldable pub imported : List Token → Option (List (List ℕ))
-imported ts = found (past_symbol s.LeftParen ts) (λ rest. listed past_name (past_end until.Paren) rest >>= λ ns. some_names ns.0 ns.1) (names_from (length ts) ts)
+imported ts = found (past_symbol s.LeftParen ts) (λ rest. listed past_name (past_end until.Paren) rest >>= λ ns. some_names ns.0 ns.1) (bare_names ts)
 
 unfoldable pub import_names : List Token → Option Form
 import_names ts = place_front ts >>= λ p. past_word k.ImportWord p.1 >>= λ rest. imported rest >>= λ ns. Some (f.import_names (dotted p.0) ns)

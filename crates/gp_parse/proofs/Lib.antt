@@ -1,5 +1,7 @@
 pub mod FormComplete
 pub mod FormSound
+pub mod FormTurns
+pub mod FormWhole
 pub mod FormWords
 pub mod ListTurns
 pub mod ListedItems

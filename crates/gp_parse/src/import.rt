@@ -87,6 +87,16 @@ fn some_names(names: Names, rest: &[Token]) -> Result<Names, PartFault>
     Ok(names)
 }
 
+/// The name at the front, and the tokens behind it.
+fn name_front(alloc: Global, tokens: &[Token]) -> Result<(Name, &[Token]), PartFault>
+    ensures { Gives (λ x. (x.0, x.1.now)) result (step.past_name tokens.now) }
+{
+    let Some((name, rest)) = past_name(tokens) else {
+        return Err(PartFault::NotSpelled);
+    };
+    Ok((Name::new(alloc, name.as_str())?, rest))
+}
+
 /// Names with commas between them, up to the end of the tokens.
 fn bare_names(alloc: Global, tokens: &[Token]) -> Result<Names, PartFault>
     ensures { Gives (λ x. x) result (spec.bare_names tokens.now) }
@@ -94,10 +104,8 @@ fn bare_names(alloc: Global, tokens: &[Token]) -> Result<Names, PartFault>
     let mut found = Names::new(alloc);
     let mut rest = tokens;
     for _turn in 0..tokens.len() {
-        let Some((name, next)) = past_name(rest) else {
-            return Err(PartFault::NotSpelled);
-        };
-        found.push(Name::new(alloc, name.as_str())?)?;
+        let (item, next) = name_front(alloc, rest)?;
+        found.push(item)?;
         if past_end(next, ListEnd::Line).is_some() {
             return Ok(found);
         }
@@ -119,10 +127,8 @@ fn names_inside(alloc: Global, tokens: &[Token]) -> Result<(Names, &[Token]), Pa
         if let Some(after) = past_end(rest, ListEnd::Paren) {
             return Ok((found, after));
         }
-        let Some((name, next)) = past_name(rest) else {
-            return Err(PartFault::NotSpelled);
-        };
-        found.push(Name::new(alloc, name.as_str())?)?;
+        let (item, next) = name_front(alloc, rest)?;
+        found.push(item)?;
         if let Some(after) = past_end(next, ListEnd::Paren) {
             return Ok((found, after));
         }

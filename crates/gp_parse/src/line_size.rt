@@ -9,7 +9,7 @@ use gp_lex::{Symbol, Token};
 pub const TOKEN_LIMIT: usize = 600;
 
 /// The most brackets that are open at once in a line.
-pub const BRACKET_LIMIT: usize = 50;
+pub const BRACKET_LIMIT: u64 = 50;
 
 /// Whether a line of these tokens is above a bound.
 pub fn is_too_big(tokens: &[Token]) -> bool
@@ -22,15 +22,11 @@ pub fn is_too_big(tokens: &[Token]) -> bool
 fn opens_too_many(tokens: &[Token]) -> bool
     ensures { IsTrue result ↔ spec.OpensTooMany tokens.now }
 {
-    let mut opened = 0usize;
-    let mut closed = 0usize;
+    let mut opened = 0;
+    let mut closed = 0;
     for token in tokens {
-        if is_opening(token) {
-            opened += 1;
-        }
-        if is_closing(token) {
-            closed += 1;
-        }
+        opened += u64::from(is_opening(token));
+        closed += u64::from(is_closing(token));
         if opened > closed + BRACKET_LIMIT {
             return true;
         }

@@ -273,3 +273,6 @@ fn copied(alloc: Global, bytes: &[u8]) -> Result<TextBytes, AllocError>
     }
     Ok(copy)
 }
+
+#[cfg(test)]
+mod tests;

@@ -1,5 +1,5 @@
 -- Functions, structs and programs as plain data, and the data that those in memory are.
-use Rattle.std.specs.Prelude.{ℕ, Bool, List, map, Option}
+use Rattle.std.specs.Prelude.{ℕ, List, map, Option}
 use Rattle.gp_base.specs.declared.name.LineNo.{LineNo}
 use Rattle.gp_tree.specs.declared.function.Function.{Function}
 use Rattle.gp_tree.specs.declared.program.Import.{Import}

@@ -6,6 +6,7 @@
 //! a definition of that data and a function that shows a tree in memory as it.
 #![tactic(auto)]
 
+pub mod copies;
 pub mod expr;
 pub mod function;
 pub mod line_form;
@@ -15,6 +16,7 @@ pub mod stmt;
 pub mod struct_decl;
 pub mod type_expr;
 
+pub use copies::{copy_name, copy_names, copy_text};
 pub use expr::{BinOp, Expr, Exprs};
 pub use function::{Function, Param, Params};
 pub use line_form::LineForm;
@@ -23,3 +25,6 @@ pub use program::{Import, Item, Program};
 pub use stmt::{Block, Stmt};
 pub use struct_decl::{FieldDecl, FieldDecls, StructDecl};
 pub use type_expr::{TypeExpr, TypeExprs};
+
+#[cfg(test)]
+mod tests;

@@ -1,6 +1,11 @@
 //! Types as they are written.
 
+ghost use Rattle.std.specs.Prelude.{◌≡◌, IfOk};
+ghost use Rattle.gp_tree.specs.TypeExpression.{type_expression};
+
+use crate::copies::copy_name;
 use gp_base::Name;
+use std::alloc::{AllocError, Global};
 
 /// A list of written types.
 pub type TypeExprs = Vec<TypeExpr>;
@@ -12,4 +17,22 @@ pub enum TypeExpr {
     Named(Name),
     /// `tuple[..]` with the types of its parts, in order; one part or more.
     Tuple(TypeExprs),
+}
+
+impl TypeExpr {
+    /// The same type once more.
+    pub fn copy(&self, alloc: Global) -> Result<TypeExpr, AllocError>
+        ensures { IfOk result (λ copy. type_expression copy ≡ type_expression self.now) }
+    {
+        match self {
+            TypeExpr::Named(name) => Ok(TypeExpr::Named(copy_name(alloc, name)?)),
+            TypeExpr::Tuple(parts) => {
+                let mut copies = TypeExprs::new(alloc);
+                for part in parts {
+                    copies.push(part.copy(alloc)?)?;
+                }
+                Ok(TypeExpr::Tuple(copies))
+            }
+        }
+    }
 }

@@ -1,0 +1,12 @@
+pub mod Fronts
+pub mod Symbols
+pub mod Strings
+pub mod Classes
+pub mod Longest
+pub mod Exact
+pub mod Whole
+pub mod Closing
+pub mod Numbers
+pub mod Comments
+pub mod Turns
+pub mod Lexed

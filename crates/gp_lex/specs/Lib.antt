@@ -1,0 +1,5 @@
+pub mod Chars
+pub mod Tokens
+pub mod Pieces
+pub mod Lines
+pub mod Reading

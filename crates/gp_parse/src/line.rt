@@ -84,3 +84,6 @@ fn led(
         _ => statement(alloc, tokens),
     }
 }
+
+#[cfg(test)]
+mod tests;

@@ -37,10 +37,7 @@ fn body(alloc: Global, tokens: &[Token]) -> Result<Option<LineForm>, PartFault>
 
 /// The type of a function's result at the front, none where it is missing or `None`, and the tokens behind it.
 #[tactic(auto, unfolding(crate::specs::FormReading::result_type))]
-fn result_type(
-    alloc: Global,
-    tokens: &[Token],
-) -> Result<(Option<TypeExpr>, &[Token]), PartFault>
+fn result_type(alloc: Global, tokens: &[Token]) -> Result<(Option<TypeExpr>, &[Token]), PartFault>
     ensures { Gives (λ x. (maybe_type x.0, x.1.now)) result (spec.result_type tokens.now) }
 {
     let Some(rest) = past_symbol(tokens, Symbol::Arrow) else {
@@ -87,10 +84,7 @@ pub fn class_header(alloc: Global, tokens: &[Token]) -> Result<LineForm, PartFau
 }
 
 /// A test, and the end of its header.
-fn test_and_body(
-    alloc: Global,
-    tokens: &[Token],
-) -> Result<(Expr, Option<LineForm>), PartFault>
+fn test_and_body(alloc: Global, tokens: &[Token]) -> Result<(Expr, Option<LineForm>), PartFault>
     ensures { Gives (λ x. (expression x.0, maybe_form x.1)) result (spec.test_and_body tokens.now) }
 {
     let (test, rest) = expression_front(alloc, tokens)?;

@@ -38,12 +38,18 @@ fn opens_too_many(tokens: &[Token]) -> bool
 fn is_opening(token: &Token) -> bool
     ensures { result ≡ spec.is_opening token.now }
 {
-    matches!(token, Token::Symbol(Symbol::LeftParen | Symbol::LeftBracket))
+    matches!(
+        token,
+        Token::Symbol(Symbol::LeftParen | Symbol::LeftBracket)
+    )
 }
 
 /// Whether a token is a closing bracket.
 fn is_closing(token: &Token) -> bool
     ensures { result ≡ spec.is_closing token.now }
 {
-    matches!(token, Token::Symbol(Symbol::RightParen | Symbol::RightBracket))
+    matches!(
+        token,
+        Token::Symbol(Symbol::RightParen | Symbol::RightBracket)
+    )
 }

@@ -35,11 +35,7 @@ fn past_tuple(tokens: &[Token]) -> Option<&[Token]>
 
 /// A type at the front that is at most so deep, and the tokens behind it.
 #[cycle(types)]
-fn type_at(
-    alloc: Global,
-    depth: usize,
-    tokens: &[Token],
-) -> Result<(TypeExpr, &[Token]), PartFault>
+fn type_at(alloc: Global, depth: usize, tokens: &[Token]) -> Result<(TypeExpr, &[Token]), PartFault>
     ensures { Gives (λ x. (type_expression x.0, x.1.now)) result (spec.type_at depth tokens.now) }
 {
     if depth == 0 {
@@ -91,11 +87,7 @@ fn named(alloc: Global, tokens: &[Token]) -> Result<(TypeExpr, &[Token]), PartFa
 
 /// Types with commas between them, and behind them a closing bracket.
 #[cycle(types)]
-fn types(
-    alloc: Global,
-    depth: usize,
-    tokens: &[Token],
-) -> Result<(TypeExprs, &[Token]), PartFault>
+fn types(alloc: Global, depth: usize, tokens: &[Token]) -> Result<(TypeExprs, &[Token]), PartFault>
     ensures { Gives (λ x. (map type_expression x.0.items, x.1.now)) result (spec.listed (spec.type_at depth) (step.past_symbol symbol.RightBracket) tokens.now) }
 {
     let mut found = TypeExprs::new(alloc);

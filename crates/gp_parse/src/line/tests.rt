@@ -109,8 +109,14 @@ fn headers_and_other_lines_have_forms(rt: HostRuntime) -> Result<(), Fail> {
         ("def f():", "def"),
         ("def f() -> None:", "def"),
         ("def f(q: qubit) -> int:", "def with a type"),
-        ("def f(q: qubit @owned, n: tuple[int, bool],): pass", "def and a statement"),
-        ("def f(n: int) -> tuple[int]: return n", "def with a type and a statement"),
+        (
+            "def f(q: qubit @owned, n: tuple[int, bool],): pass",
+            "def and a statement",
+        ),
+        (
+            "def f(n: int) -> tuple[int]: return n",
+            "def with a type and a statement",
+        ),
         ("class P:", "class"),
         ("if n == 1:", "if"),
         ("if n: n = 1", "if and a statement"),

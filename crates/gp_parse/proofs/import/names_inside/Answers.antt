@@ -5,7 +5,6 @@ use Rattle.gp_parse.proofs.ListTurns.{listed_init, listed_start, listed_close, l
 use Rattle.gp_parse.specs.declared.list_end.ListEnd.TheVariants as until
 use Rattle.gp_parse.specs.Reading.{past_end}
 use Rattle.gp_parse.specs.Steps.{past_name}
-
 use Rattle.gp_parse.proofs.import.names_inside.Goals as goal
 
 pub loop-turn-init : goal.loop-turn-init

@@ -6,7 +6,6 @@ use Rattle.gp_parse.specs.declared.list_end.ListEnd.TheVariants as until
 use Rattle.gp_parse.specs.FormReading.{listed, listed_from, param}
 use Rattle.gp_parse.specs.Reading.{past_end}
 use Rattle.gp_tree.specs.Form.{parameter}
-
 use Rattle.gp_parse.proofs.param.params.Goals as goal
 
 pub loop-turn-init : goal.loop-turn-init

@@ -4,7 +4,6 @@ use Rattle.std.proofs.lemmas.List.{map_push}
 use Rattle.gp_parse.proofs.ListTurns.{listed_init, listed_start, listed_close, listed_fail, listed_end, listed_stop, listed_go_on, listed_run_out}
 use Rattle.gp_parse.specs.FormReading.{listed, listed_from}
 use Rattle.gp_parse.specs.Reading.{place_front, past_end}
-
 use Rattle.gp_parse.proofs.target.places.Goals as goal
 
 pub loop-turn-init : goal.loop-turn-init

@@ -7,7 +7,6 @@ use Rattle.gp_parse.proofs.Turns.{deeper}
 use Rattle.gp_parse.specs.FormReading.{listed, listed_from, type_at}
 use Rattle.gp_parse.specs.Steps.{past_symbol, with_front}
 use Rattle.gp_tree.specs.TypeExpression.{type_expression}
-
 use Rattle.gp_parse.proofs.written_type.+types.Goals as goal
 
 pub types-loop-turn-init : goal.types-loop-turn-init

@@ -3,7 +3,6 @@ use Rattle.std.specs.Prelude.{◌≡◌, ◌+◌, ◌<◌, Bool, true, false, Li
 use Rattle.gp_lex.specs.declared.token.Token.{Token}
 use Rattle.gp_lex.specs.declared.token.Token.TheVariants as t
 use Rattle.gp_lex.specs.declared.token.Symbol.TheVariants as s
-use Rattle.gp_parse.specs.declared.line_size.TheConstants.{TOKEN_LIMIT, BRACKET_LIMIT}
 
 abbrev pub is_opening : Token → Bool
 is_opening (t.Symbol s.LeftParen) = true
@@ -15,10 +14,10 @@ is_closing (t.Symbol s.RightParen) = true
 is_closing (t.Symbol s.RightBracket) = true
 is_closing _ = false
 
--- behind some front of the tokens more brackets are open than a line may have: those that were opened so far and
--- not closed
+-- behind some front of the tokens more than 50 brackets are open: so many more were opened than closed
 abbrev pub OpensTooMany : List Token → Type 0
-OpensTooMany ts = (front : List Token) × (rest : List Token) × (ts ≡ front ++ rest) × (count_by is_closing front + BRACKET_LIMIT < count_by is_opening front)
+OpensTooMany ts = (front : List Token) × (rest : List Token) × (ts ≡ front ++ rest) × (count_by is_closing front + 50 < count_by is_opening front)
 
+-- more than 600 tokens, or more than 50 brackets open at once
 abbrev pub IsTooBig : List Token → Type 0
-IsTooBig ts = (TOKEN_LIMIT < length ts) ⊎ OpensTooMany ts
+IsTooBig ts = (600 < length ts) ⊎ OpensTooMany ts

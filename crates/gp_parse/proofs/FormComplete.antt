@@ -1,5 +1,5 @@
 -- The form that tokens spell is read.
-use Rattle.std.proofs.Common.{◌≡◌, ℕ, zero, suc, ◌+◌, ◌-◌, ◌<◌, ◌≤◌, Bool, true, false, cond, bytes_eq, List, [], ◌∷◌, ◌++◌, length, codes, Option, Some, None, refl, sym, ap, subst, ◌∙◌, append_assoc, arith, length-append}
+use Rattle.std.proofs.Common.{◌≡◌, ℕ, suc, ◌-◌, ◌≤◌, Bool, true, false, cond, bytes_eq, List, [], ◌∷◌, ◌++◌, length, codes, Option, Some, None, refl, sym, ap, ◌∙◌, append_assoc, arith, length-append}
 use Rattle.std.proofs.lemmas.List.{append-nil}
 use Rattle.gp_lex.specs.declared.token.Token.{Token}
 use Rattle.gp_lex.specs.declared.token.Token.TheVariants as t
@@ -8,7 +8,6 @@ use Rattle.gp_lex.specs.declared.token.Symbol.TheVariants as s
 use Rattle.gp_lex.specs.declared.token.Keyword.{Keyword}
 use Rattle.gp_lex.specs.declared.token.Keyword.TheVariants as k
 use Rattle.gp_tree.specs.declared.expr.BinOp.{BinOp}
-use Rattle.gp_tree.specs.declared.expr.BinOp.TheVariants as op
 use Rattle.gp_tree.specs.declared.place.Place.{Place}
 use Rattle.gp_tree.specs.declared.place.Targets.{Targets}
 use Rattle.gp_tree.specs.declared.place.Targets.TheVariants as to
@@ -25,14 +24,14 @@ use Rattle.gp_parse.specs.declared.list_end.ListEnd.{ListEnd}
 use Rattle.gp_parse.specs.declared.list_end.ListEnd.TheVariants as until
 use Rattle.gp_parse.specs.Forms as g
 use Rattle.gp_parse.specs.Forms.{Listed, SpellsType, SpellsTypes, parameter_of, SpellsParam, SpellsPlaces, SpellsTargets, augmenting, SpellsSimple, SpellsBody, SpellsResult, IsMaybeComma, SpellsName, SpellsNames, SpellsImported, dotted, SpellsForm, HasOneForm}
-use Rattle.gp_parse.specs.Steps.{Read, ◌>>=◌, found, if_same, past_symbol, past_word, past_name}
+use Rattle.gp_parse.specs.Steps.{◌>>=◌, if_same, past_symbol, past_word, past_name}
 use Rattle.gp_parse.specs.Reading.{fields_from, path_from, past_join, chain_from, chain, past_end, expressions, named, atom, factor, comparison, inversion, whole, read, place_front, expression_front, all_expressions}
-use Rattle.gp_parse.specs.FormReading.{past_soft_word, nothing, past_string, all_of, listed_from, listed, some_tuple, past_tuple, type_with, type_at, a_type, owned_mark, param, pattern_inside, pattern_outside, targets, assigning_symbol, assigning, split, assigned, declaration, past_declared, past_request, docstring, module_call, evaluated, unled, alone, returned, statement, only_simple, simple, body, result_type, def_header, class_header, tested, else_header, maybe_comma, past_range, for_header, decorator, some_names, names_from, imported, import_names, first_word, led, line}
+use Rattle.gp_parse.specs.FormReading.{past_soft_word, nothing, past_string, listed, some_tuple, past_tuple, type_with, type_at, a_type, owned_mark, param, pattern_inside, pattern_outside, targets, assigning_symbol, assigning, split, assigned, declaration, past_declared, past_request, docstring, module_call, evaluated, unled, returned, statement, only_simple, simple, body, result_type, def_header, class_header, tested, else_header, maybe_comma, past_range, for_header, decorator, names_from, imported, import_names, first_word, led, line}
 use Rattle.gp_parse.proofs.StepLemmas.{some, some_is}
 use Rattle.gp_parse.proofs.FormWords.{this_text}
 use Rattle.gp_parse.proofs.ListedItems.{ItemReads, ListReads, nothing_reads, last_reads, going_on_reads, listed_reads, all_reads}
-use Rattle.gp_parse.proofs.Follow.{first_binds, opening, Begins, begins_looser, begins_longer, comma_goes_on, not_symbol, not_word, not_end}
-use Rattle.gp_parse.proofs.PlainTokens.{is_plain, are_plain, both_plain, with_token, place_plain, plain, expressions_plain}
+use Rattle.gp_parse.proofs.Follow.{first_binds, opening, Begins, begins_longer, comma_goes_on, not_word}
+use Rattle.gp_parse.proofs.PlainTokens.{is_plain, are_plain, both_plain, with_token, place_plain, expressions_plain}
 use Rattle.gp_parse.proofs.FormSound.{docstring_is, module_call_sound}
 use Rattle.gp_parse.proofs.ExpressionComplete.{place_front_complete, expression_begins, expression_front_complete, all_expressions_complete}
 

@@ -1,5 +1,5 @@
 -- The form that is read is spelled so.
-use Rattle.std.proofs.Common.{◌≡◌, ℕ, zero, suc, Bool, true, false, List, [], ◌∷◌, ◌++◌, length, codes, Option, Some, None, refl, sym, ap, subst, ◌∙◌, append_assoc, ◌⊎◌, inl, inr}
+use Rattle.std.proofs.Common.{◌≡◌, ℕ, zero, suc, Bool, true, false, List, [], ◌∷◌, ◌++◌, length, codes, Option, Some, None, refl, sym, ap, subst, ◌∙◌, append_assoc}
 use Rattle.std.proofs.lemmas.List.{append-nil}
 use Rattle.gp_lex.specs.declared.token.Token.{Token}
 use Rattle.gp_lex.specs.declared.token.Token.TheVariants as t
@@ -8,7 +8,6 @@ use Rattle.gp_lex.specs.declared.token.Symbol.TheVariants as s
 use Rattle.gp_lex.specs.declared.token.Keyword.{Keyword}
 use Rattle.gp_lex.specs.declared.token.Keyword.TheVariants as k
 use Rattle.gp_tree.specs.declared.expr.BinOp.{BinOp}
-use Rattle.gp_tree.specs.declared.place.Place.{Place}
 use Rattle.gp_tree.specs.declared.place.Targets.{Targets}
 use Rattle.gp_tree.specs.declared.place.Targets.TheVariants as to
 use Rattle.gp_tree.specs.Expression.{Expression}
@@ -18,13 +17,13 @@ use Rattle.gp_tree.specs.Form as f
 use Rattle.gp_parse.specs.declared.assigning.Assigning.{Assigning}
 use Rattle.gp_parse.specs.declared.assigning.Assigning.TheVariants.{Plain, By}
 use Rattle.gp_parse.specs.declared.level.Level.TheVariants.{Whole}
-use Rattle.gp_parse.specs.Grammar.{Spells, SpellsPlace, SpellsExpressions}
+use Rattle.gp_parse.specs.Grammar.{Spells, SpellsPlace}
 use Rattle.gp_parse.specs.declared.list_end.ListEnd.TheVariants as until
 use Rattle.gp_parse.specs.Forms as g
 use Rattle.gp_parse.specs.Forms.{Listed, SpellsType, SpellsTypes, parameter_of, SpellsParam, SpellsPlaces, SpellsTargets, augmenting, SpellsSimple, SpellsBody, SpellsResult, IsMaybeComma, SpellsName, SpellsNames, SpellsImported, dotted, SpellsForm}
-use Rattle.gp_parse.specs.Steps.{Read, ◌>>=◌, found, past_symbol, past_word, past_name}
-use Rattle.gp_parse.specs.Reading.{past_end, place_front, expression_front, all_expressions}
-use Rattle.gp_parse.specs.FormReading.{past_soft_word, nothing, past_string, all_of, listed, some_tuple, past_tuple, type_with, type_at, a_type, owned_mark, param, pattern_inside, pattern_outside, targets, assigning_symbol, assigning, split, assigned, declaration, past_declared, past_request, docstring, module_call, evaluated, unled, alone, returned, statement, only_simple, simple, body, result_type, def_header, class_header, test_and_body, tested, else_header, maybe_comma, past_range, for_header, decorator, some_names, names_from, imported, import_names, first_word, led, line}
+use Rattle.gp_parse.specs.Steps.{Read, ◌>>=◌, past_symbol, past_word, past_name}
+use Rattle.gp_parse.specs.Reading.{past_end, place_front, expression_front}
+use Rattle.gp_parse.specs.FormReading.{nothing, past_string, all_of, some_tuple, past_tuple, type_with, type_at, a_type, owned_mark, param, pattern_inside, pattern_outside, targets, assigning_symbol, assigning, split, assigned, declaration, past_declared, past_request, docstring, module_call, evaluated, unled, alone, returned, statement, only_simple, simple, body, result_type, def_header, class_header, test_and_body, tested, else_header, maybe_comma, past_range, for_header, decorator, some_names, names_from, imported, import_names, first_word, led, line}
 use Rattle.gp_parse.proofs.StepLemmas.{bind_some, found_some, on, off, some, some_is, symbol_is, word_is, name_is, Front, IsSound, made, joined_parts}
 use Rattle.gp_parse.proofs.FormWords.{text_is, paren_is, nothing_is, string_is}
 use Rattle.gp_parse.proofs.ListedItems.{listed_sound, to_the_end}

@@ -1,5 +1,5 @@
 -- The turns of the other loops, beside what the reading says.
-use Rattle.std.proofs.Common.{◌≡◌, ℕ, zero, suc, ◌+◌, ◌-◌, ◌<◌, ◌≤◌, Bool, true, false, cond, List, [], ◌∷◌, ◌++◌, length, get_or, take, drop, count_by, flat_map, ◌⊎◌, inl, inr, is_some, Option, Some, None, refl, sym, ap, subst, ◌∙◌, arith, length-append, length-drop, append_assoc, add-one, add-zero, drop-cons}
+use Rattle.std.proofs.Common.{◌≡◌, ℕ, suc, ◌+◌, ◌-◌, ◌<◌, ◌≤◌, Bool, true, false, cond, List, [], ◌∷◌, ◌++◌, length, get_or, take, drop, count_by, flat_map, is_some, Option, Some, None, refl, sym, ap, ◌∙◌, arith, length-append, length-drop, append_assoc, add-one, add-zero, drop-cons}
 use Rattle.std.proofs.Math.Seq.{take-suc, take-append_seam, take-length}
 use Rattle.std.proofs.Math.ListN.{drop_of_length-le}
 use Rattle.std.proofs.lemmas.List.{append-nil, take-append-drop, take_all, length-take}

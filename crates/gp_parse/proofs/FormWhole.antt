@@ -1,14 +1,13 @@
 -- What the answer says of the spelling.
-use Rattle.std.proofs.Common.{◌≡◌, List, Option, Some, None, Result, Ok, Err, refl, sym, ◌∙◌}
+use Rattle.std.proofs.Common.{◌≡◌, Some, None, Ok, Err, refl, sym, ◌∙◌}
 use Rattle.gp_lex.specs.declared.line.LogicalLine.{LogicalLine}
 use Rattle.gp_tree.specs.declared.line_form.LineForm.{LineForm}
-use Rattle.gp_tree.specs.Form.{Form, form}
+use Rattle.gp_tree.specs.Form.{form}
 use Rattle.gp_parse.specs.declared.form_fault.FormFault.TheVariants as fault
-use Rattle.gp_parse.specs.Forms.{SpellsForm}
 use Rattle.gp_parse.specs.FormReading as spec
 use Rattle.gp_parse.specs.LineForms.{IsFormOf}
 use Rattle.gp_parse.specs.LineSize.{IsTooBig}
-use Rattle.gp_parse.proofs.StepLemmas.{some, some_is, none_some}
+use Rattle.gp_parse.proofs.StepLemmas.{some_is, none_some}
 use Rattle.gp_parse.proofs.FormSound.{line_sound}
 use Rattle.gp_parse.proofs.FormComplete.{line_complete}
 

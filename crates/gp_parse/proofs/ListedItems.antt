@@ -1,14 +1,14 @@
 -- Items with commas between them are what the reading of them says.
-use Rattle.std.proofs.Common.{◌≡◌, ℕ, zero, suc, ◌+◌, ◌-◌, ◌<◌, ◌≤◌, List, [], ◌∷◌, ◌++◌, length, Option, Some, None, refl, sym, ap, subst, ◌∙◌, append_assoc, arith, length-append}
+use Rattle.std.proofs.Common.{◌≡◌, ℕ, zero, suc, ◌-◌, ◌<◌, List, [], ◌∷◌, ◌++◌, length, Option, Some, None, refl, sym, ap, subst, ◌∙◌, append_assoc, arith, length-append}
 use Rattle.std.proofs.lemmas.List.{append-nil}
 use Rattle.gp_lex.specs.declared.token.Token.{Token}
 use Rattle.gp_lex.specs.declared.token.Token.TheVariants as t
 use Rattle.gp_lex.specs.declared.token.Symbol.TheVariants as s
 use Rattle.gp_parse.specs.Forms as g
 use Rattle.gp_parse.specs.Forms.{Listed}
-use Rattle.gp_parse.specs.Steps.{◌>>=◌, Read, past_symbol}
+use Rattle.gp_parse.specs.Steps.{Read, past_symbol}
 use Rattle.gp_parse.specs.FormReading.{nothing, listed_from, listed}
-use Rattle.gp_parse.proofs.StepLemmas.{bind_some, found_some, on, off, symbol_is, Front, IsSound}
+use Rattle.gp_parse.proofs.StepLemmas.{bind_some, found_some, on, off, symbol_is, IsSound}
 use Rattle.gp_parse.proofs.FormWords.{nothing_is}
 
 -- ---- what is read is spelled so

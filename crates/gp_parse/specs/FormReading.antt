@@ -6,7 +6,6 @@ use Rattle.gp_lex.specs.declared.token.Symbol.{Symbol}
 use Rattle.gp_lex.specs.declared.token.Symbol.TheVariants as s
 use Rattle.gp_lex.specs.declared.token.Keyword.{Keyword}
 use Rattle.gp_lex.specs.declared.token.Keyword.TheVariants as k
-use Rattle.gp_tree.specs.declared.expr.BinOp.{BinOp}
 use Rattle.gp_tree.specs.declared.place.Place.{Place}
 use Rattle.gp_tree.specs.declared.place.Targets.{Targets}
 use Rattle.gp_tree.specs.declared.place.Targets.TheVariants as to

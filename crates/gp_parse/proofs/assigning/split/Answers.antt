@@ -1,4 +1,4 @@
-use Rattle.std.proofs.Common.{◌≡◌, ◌+◌, List, length, take, drop, Some, sym, ap, ◌∙◌}
+use Rattle.std.proofs.Common.{◌+◌, List, take, Some, sym, ap, ◌∙◌}
 use Rattle.gp_lex.specs.declared.token.Token.{Token}
 use Rattle.gp_parse.proofs.FormTurns.{split_start, split_stop, split_go_on, split_end, behind_place}
 use Rattle.gp_parse.proofs.assigning.split.Goals as goal

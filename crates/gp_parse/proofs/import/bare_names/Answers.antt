@@ -1,4 +1,4 @@
-use Rattle.std.proofs.Common.{◌≡◌, ◌∷◌, ◌++◌, [], length, is_some, true, false, arith, rules}
+use Rattle.std.proofs.Common.{◌≡◌, length, is_some, true, false, rules}
 use Rattle.std.proofs.lemmas.Result.{err_from_is_err_and}
 use Rattle.gp_parse.specs.FormReading.{nothing}
 use Rattle.gp_parse.proofs.FormTurns.{names_start, names_fail, names_end, names_stop, names_go_on, names_run_out, there, not_there}

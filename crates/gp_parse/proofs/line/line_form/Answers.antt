@@ -1,4 +1,4 @@
-use Rattle.std.proofs.Common.{◌≡◌, ◌↔◌, IsTrue, Bool, true, false, Option, Some, None, sym, ap, subst, ◌∙◌, rules}
+use Rattle.std.proofs.Common.{◌≡◌, ◌↔◌, IsTrue, Bool, true, false, sym, ap, ◌∙◌}
 use Rattle.gp_parse.specs.FormReading as spec
 use Rattle.gp_parse.specs.LineSize.{IsTooBig}
 use Rattle.gp_parse.proofs.FormWhole.{found_is, nothing_is}

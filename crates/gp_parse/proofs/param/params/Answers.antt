@@ -1,9 +1,9 @@
-use Rattle.std.proofs.Common.{◌≡◌, ◌+◌, length, map, [], ◌∷◌, ◌++◌, refl, ap, ◌∙◌, arith}
+use Rattle.std.proofs.Common.{◌≡◌, ◌+◌, length, map, [], ◌∷◌, ◌++◌, refl}
 use Rattle.std.proofs.lemmas.Result.{err_from_is_err_and}
 use Rattle.std.proofs.lemmas.List.{map_push}
-use Rattle.gp_parse.proofs.ListTurns.{listed_init, listed_start, listed_close, listed_fail, listed_end, listed_stop, listed_go_on, listed_run_out}
+use Rattle.gp_parse.proofs.ListTurns.{listed_start, listed_close, listed_fail, listed_end, listed_stop, listed_go_on, listed_run_out}
 use Rattle.gp_parse.specs.declared.list_end.ListEnd.TheVariants as until
-use Rattle.gp_parse.specs.FormReading.{listed, listed_from, param}
+use Rattle.gp_parse.specs.FormReading.{param}
 use Rattle.gp_parse.specs.Reading.{past_end}
 use Rattle.gp_tree.specs.Form.{parameter}
 use Rattle.gp_parse.proofs.param.params.Goals as goal

@@ -1,8 +1,6 @@
-use Rattle.std.proofs.Common.{◌≡◌, ◌+◌, length, map, [], ◌∷◌, ◌++◌, refl, ap, ◌∙◌, arith}
+use Rattle.std.proofs.Common.{◌+◌, length, [], ◌∷◌, refl}
 use Rattle.std.proofs.lemmas.Result.{err_from_is_err_and}
-use Rattle.std.proofs.lemmas.List.{map_push}
-use Rattle.gp_parse.proofs.ListTurns.{listed_init, listed_start, listed_close, listed_fail, listed_end, listed_stop, listed_go_on, listed_run_out}
-use Rattle.gp_parse.specs.FormReading.{listed, listed_from}
+use Rattle.gp_parse.proofs.ListTurns.{listed_init, listed_close, listed_fail, listed_end, listed_stop, listed_go_on, listed_run_out}
 use Rattle.gp_parse.specs.Reading.{place_front, past_end}
 use Rattle.gp_parse.proofs.target.places.Goals as goal
 

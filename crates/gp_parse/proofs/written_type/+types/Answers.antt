@@ -1,11 +1,11 @@
-use Rattle.std.proofs.Common.{◌≡◌, ◌+◌, length, map, [], ◌∷◌, ◌++◌, refl, ap, ◌∙◌, arith}
+use Rattle.std.proofs.Common.{◌≡◌, ◌+◌, length, map, [], ◌∷◌, ◌++◌, refl, ap, arith}
 use Rattle.std.proofs.lemmas.Result.{err_from_is_err_and}
 use Rattle.std.proofs.lemmas.List.{map_push}
-use Rattle.gp_parse.proofs.ListTurns.{listed_init, listed_start, listed_close, listed_fail, listed_end, listed_stop, listed_go_on, listed_run_out}
+use Rattle.gp_parse.proofs.ListTurns.{listed_start, listed_close, listed_fail, listed_end, listed_stop, listed_go_on, listed_run_out}
 use Rattle.gp_lex.specs.declared.token.Symbol.TheVariants as symbol
 use Rattle.gp_parse.proofs.Turns.{deeper}
-use Rattle.gp_parse.specs.FormReading.{listed, listed_from, type_at}
-use Rattle.gp_parse.specs.Steps.{past_symbol, with_front}
+use Rattle.gp_parse.specs.FormReading.{type_at}
+use Rattle.gp_parse.specs.Steps.{past_symbol}
 use Rattle.gp_tree.specs.TypeExpression.{type_expression}
 use Rattle.gp_parse.proofs.written_type.+types.Goals as goal
 

@@ -1,3 +1,10 @@
+pub mod FormComplete
+pub mod FormSound
+pub mod FormTurns
+pub mod FormWhole
+pub mod FormWords
+pub mod ListTurns
+pub mod ListedItems
 pub mod ExpressionComplete
 pub mod ExpressionSound
 pub mod Follow

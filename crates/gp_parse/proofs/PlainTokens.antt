@@ -1,12 +1,12 @@
 -- No sign of assignment and no colon stands in an expression or a place.
-use Rattle.std.proofs.Common.{◌≡◌, ℕ, Bool, true, false, cond, List, [], ◌∷◌, ◌++◌, Option, Some, None, refl, sym, ap, ◌∙◌}
+use Rattle.std.proofs.Common.{◌≡◌, ℕ, Bool, true, false, cond, List, [], ◌∷◌, ◌++◌, Some, refl}
 use Rattle.gp_lex.specs.declared.token.Keyword.TheVariants as k
 use Rattle.gp_lex.specs.declared.token.Symbol.TheVariants as s
 use Rattle.gp_lex.specs.declared.token.Token.{Token}
 use Rattle.gp_lex.specs.declared.token.Token.TheVariants as t
 use Rattle.gp_parse.specs.declared.level.Join.{Join}
 use Rattle.gp_parse.specs.declared.level.Level.{Level}
-use Rattle.gp_parse.specs.declared.level.Level.TheVariants.{Whole, Disjunction, Conjunction, Inversion, Comparison, Sum, Term, Factor, Atom}
+use Rattle.gp_parse.specs.declared.level.Level.TheVariants.{Disjunction, Conjunction, Comparison, Sum, Term}
 use Rattle.gp_parse.specs.Grammar as g
 use Rattle.gp_parse.specs.Grammar.{join_at, SpellsFields, SpellsPlace, Spells, SpellsItems, SpellsTuple, SpellsExpressions}
 use Rattle.gp_tree.specs.declared.place.Place.{Place}

@@ -1,5 +1,5 @@
 -- Steps of reading tokens from left to right. A reading gives what stands at the front, and the tokens behind it.
-use Rattle.std.specs.Prelude.{◌≡◌, ℕ, zero, suc, List, [], ◌∷◌, ◌++◌, Bool, Option, Some, None, Result, Ok, Err, if◌then◌else◌}
+use Rattle.std.specs.Prelude.{◌≡◌, ℕ, List, ◌∷◌, ◌++◌, Bool, Option, Some, None, Result, Ok, Err, if◌then◌else◌}
 use denote.Enum.Bare.{sameb}
 use Rattle.gp_lex.specs.contracts.token.Keyword.{the_type as keyword_type}
 use Rattle.gp_lex.specs.contracts.token.Symbol.{the_type as symbol_type}

@@ -1,4 +1,4 @@
-use Rattle.std.proofs.Common.{◌≡◌, arith, rules}
+use Rattle.std.proofs.Common.{arith, rules}
 use Rattle.std.proofs.lemmas.Grind.{common_steps}
 use Rattle.gp_parse.specs.Reading.{fields_from}
 use Rattle.gp_parse.proofs.Turns.{one_more, no_more}

@@ -1,14 +1,1 @@
-pub mod FormComplete
-pub mod FormSound
-pub mod FormTurns
-pub mod FormWhole
-pub mod FormWords
-pub mod ListTurns
-pub mod ListedItems
-pub mod ExpressionComplete
-pub mod ExpressionSound
-pub mod Follow
-pub mod PlainTokens
-pub mod StepLemmas
 pub mod ThinLemmas
-pub mod Turns

@@ -1,16 +1,9 @@
-//! Laws of texts and lines, each carried by the contract of a function that does nothing.
+//! Laws of the texts, each carried by the contract of a function that does nothing.
 
-ghost use Rattle.gp_parse.specs.Forms.{HasOneForm};
 ghost use Rattle.gp_parse.specs.Thin.{OneReading};
 
 /// A text is thin in at most one way.
 #[tactic(auto, using(crate::proofs::ThinLemmas::one_reading))]
 pub fn one_reading()
     ensures { OneReading }
-{}
-
-/// A line's tokens spell at most one form.
-#[tactic(auto, using(crate::proofs::FormComplete::one_form))]
-pub fn one_form()
-    ensures { HasOneForm }
 {}

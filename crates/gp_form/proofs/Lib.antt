@@ -1,0 +1,13 @@
+pub mod FormComplete
+pub mod FormSound
+pub mod FormTurns
+pub mod FormWhole
+pub mod FormWords
+pub mod ListTurns
+pub mod ListedItems
+pub mod ExpressionComplete
+pub mod ExpressionSound
+pub mod Follow
+pub mod PlainTokens
+pub mod StepLemmas
+pub mod Turns

@@ -1,0 +1,9 @@
+//! Laws of lines, each carried by the contract of a function that does nothing.
+
+ghost use Rattle.gp_form.specs.Forms.{HasOneForm};
+
+/// A line's tokens spell at most one form.
+#[tactic(auto, using(crate::proofs::FormComplete::one_form))]
+pub fn one_form()
+    ensures { HasOneForm }
+{}

@@ -1,0 +1,72 @@
+//! Reads parameters.
+
+ghost use Rattle.std.specs.Prelude.{◌≡◌, map};
+ghost use Rattle.gp_form.specs.declared.list_end.ListEnd.TheVariants as until;
+ghost use Rattle.gp_form.specs.FormReading as spec;
+ghost use Rattle.gp_form.specs.Reading.{past_end};
+ghost use Rattle.gp_form.specs.Steps.{Finds, Gives};
+ghost use Rattle.gp_tree.specs.Form.{parameter};
+
+use crate::list_end::{ListEnd, past_end};
+use crate::part_fault::PartFault;
+use crate::soft_keyword::past_soft_word;
+use crate::step::{past_name, past_symbol};
+use crate::written_type::type_front;
+use gp_base::Name;
+use gp_lex::{Symbol, Token};
+use gp_tree::{Param, Params};
+use std::alloc::Global;
+
+/// Whether the mark `@owned` stands at the front, and the tokens behind it.
+#[tactic(auto, unfolding(crate::specs::FormReading::owned_mark))]
+fn owned_mark(tokens: &[Token]) -> Option<(bool, &[Token])>
+    ensures { Finds (λ x. (x.0, x.1.now)) result (spec.owned_mark tokens.now) }
+{
+    let Some(rest) = past_symbol(tokens, Symbol::At) else {
+        return Some((false, tokens));
+    };
+    let rest = past_soft_word(rest, "owned")?;
+    Some((true, rest))
+}
+
+/// The parameter at the front, and the tokens behind it.
+#[tactic(auto, unfolding(crate::specs::FormReading::param))]
+fn param(alloc: Global, tokens: &[Token]) -> Result<(Param, &[Token]), PartFault>
+    ensures { Gives (λ x. (parameter x.0, x.1.now)) result (spec.param tokens.now) }
+{
+    let Some((name, rest)) = past_name(tokens) else {
+        return Err(PartFault::NotSpelled);
+    };
+    let Some(rest) = past_symbol(rest, Symbol::Colon) else {
+        return Err(PartFault::NotSpelled);
+    };
+    let (ty, rest) = type_front(alloc, rest)?;
+    let Some((owned, rest)) = owned_mark(rest) else {
+        return Err(PartFault::NotSpelled);
+    };
+    let name = Name::new(alloc, name.as_str())?;
+    Ok((Param { name, ty, owned }, rest))
+}
+
+/// Parameters with commas between them, and behind them a closing parenthesis.
+pub fn params(alloc: Global, tokens: &[Token]) -> Result<(Params, &[Token]), PartFault>
+    ensures { Gives (λ x. (map parameter x.0, x.1.now)) result (spec.listed spec.param (past_end until.Paren) tokens.now) }
+{
+    let mut found = Params::new(alloc);
+    let mut rest = tokens;
+    for _turn in 0..tokens.len() + 1 {
+        if let Some(after) = past_end(rest, ListEnd::Paren) {
+            return Ok((found, after));
+        }
+        let (item, next) = param(alloc, rest)?;
+        found.push(item)?;
+        if let Some(after) = past_end(next, ListEnd::Paren) {
+            return Ok((found, after));
+        }
+        let Some(after) = past_symbol(next, Symbol::Comma) else {
+            return Err(PartFault::NotSpelled);
+        };
+        rest = after;
+    }
+    Err(PartFault::NotSpelled)
+}

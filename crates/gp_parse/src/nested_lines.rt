@@ -49,6 +49,15 @@ fn top_form(items: &mut Program, line: LineNo, form: LineForm) -> Result<Positio
     match form {
         LineForm::FunctionDecorator => Ok(Position::FunctionMarked(line)),
         LineForm::StructDecorator => Ok(Position::ClassMarked(line)),
+        _ => whole_item(items, line, form),
+    }
+}
+
+/// Takes a line that stands at the top without others.
+fn whole_item(items: &mut Program, line: LineNo, form: LineForm) -> Result<Position, ParseFault>
+    ensures { LeavesState result items.new (spec.adds_items (spec.top_line_of line (forms.form form)) line (program_items items.old)) }
+{
+    match form {
         LineForm::Import(module, names) => {
             items.push(Item::Import(Import {
                 line,

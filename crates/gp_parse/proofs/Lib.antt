@@ -11,3 +11,5 @@ pub mod Places
 pub mod Openings
 pub mod NestingPromises
 pub mod Readings
+pub mod ProgramForms
+pub mod NestingLaws

@@ -7,3 +7,5 @@ pub mod NestingViews
 pub mod NestingCode
 pub mod Nested
 pub mod Placement
+pub mod Programs
+pub mod NestingLaws

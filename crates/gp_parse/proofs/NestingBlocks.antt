@@ -1,5 +1,5 @@
 -- What a function's open blocks keep from line to line, and how they end.
-use Rattle.std.proofs.Common.{◌≡◌, ℕ, ◌+◌, ◌<◌, Bool, true, false, cond, eqb, ltb, List, [], ◌∷◌, ◌++◌, Option, Some, None, Result, Ok, Err, refl, sym, ap, subst, ◌∙◌, arith}
+use Rattle.std.proofs.Common.{◌≡◌, ℕ, ◌+◌, ◌<◌, Bool, true, false, cond, eqb, ltb, List, [], ◌∷◌, ◌++◌, Option, Some, None, Ok, refl, sym, subst, ◌∙◌, arith}
 use Rattle.std.proofs.lemmas.Bool.{ltb-true}
 use Rattle.gp_base.specs.declared.name.LineNo.{LineNo}
 use Rattle.gp_tree.specs.Form.{Form, MaybeForm, no_form, some_form}
@@ -8,8 +8,8 @@ use Rattle.gp_tree.specs.Statement.{Statement}
 use Rattle.gp_tree.specs.Statement as s
 use Rattle.gp_parse.specs.Nesting as g
 use Rattle.gp_parse.specs.Nesting.{Line, line, IsDeeper}
-use Rattle.gp_parse.specs.FirstFault.{Fault, nesting, too_deep, any_level}
-use Rattle.gp_parse.specs.NestingMachine.{simple_of, branch, other_branch, while_body, for_body, Opening, Branch, Frame, Blocks, settle, add, block_of, put, place, closed, opens_with, opens, opens_other, adds, opening, goes_on, at_frames, opened, placed, step_by}
+use Rattle.gp_parse.specs.FirstFault.{nesting, too_deep}
+use Rattle.gp_parse.specs.NestingMachine.{simple_of, Opening, Branch, Frame, Blocks, settle, add, block_of, put, place, closed, opens_with, opens, opens_other, adds, goes_on, at_frames, opened, placed, step_by}
 use Rattle.gp_parse.proofs.NestingRest.{Rest, After, nothing_in, yes, no, chosen, ok, err, ok_is, err_ok}
 use Rattle.gp_parse.proofs.NestingComplete.{Falls, falls_put, nothing_is}
 

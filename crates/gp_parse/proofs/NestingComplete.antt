@@ -1,19 +1,17 @@
 -- A line that could come in a function's open blocks is taken.
-use Rattle.std.proofs.Common.{◌≡◌, ℕ, ◌+◌, ◌<◌, ◌≤◌, Bool, true, false, eqb, List, [], ◌∷◌, ◌++◌, Option, Some, None, Result, Ok, refl, sym, ap, subst, ◌∙◌, append_assoc, arith, ◌⊎◌, inl, inr}
+use Rattle.std.proofs.Common.{◌≡◌, ℕ, ◌+◌, ◌<◌, ◌≤◌, Bool, true, false, eqb, List, [], ◌∷◌, ◌++◌, Option, Some, None, Ok, refl, sym, ap, subst, ◌∙◌, append_assoc, arith, ◌⊎◌, inl, inr}
 use Rattle.std.proofs.lemmas.Bool.{eqb-true, lt-ltb, eq-eqb}
 use Rattle.std.proofs.lemmas.List.{append-nil}
 use Rattle.gp_base.specs.declared.name.LineNo.{LineNo}
-use Rattle.gp_tree.specs.Expression.{Expression}
 use Rattle.gp_tree.specs.Form.{Form, MaybeForm, no_form, some_form}
 use Rattle.gp_tree.specs.Form as f
 use Rattle.gp_tree.specs.Statement.{Statement, statements_of}
 use Rattle.gp_tree.specs.Statement as s
 use Rattle.gp_parse.specs.Nesting as g
 use Rattle.gp_parse.specs.Nesting.{Line, line, IsSimple, AreStatements, IsStatement, IsOtherBranch, IsBlock, IsDeeper}
-use Rattle.gp_parse.specs.FirstFault.{Fault}
-use Rattle.gp_parse.specs.NestingMachine.{simple_of, Header, branch, other_branch, while_body, for_body, Opening, Branch, Frame, Blocks, settled, settle, add, block_of, put, place, closed, opens_with, opens, adds, opening, goes_on, at_frames, opened, placed, step_by}
+use Rattle.gp_parse.specs.NestingMachine.{simple_of, Header, branch, other_branch, while_body, for_body, Opening, Branch, Frame, Blocks, settled, settle, add, block_of, put, place, opens_with, opens, opening, goes_on, at_frames, step_by}
 use Rattle.gp_parse.proofs.NestingForms.{simple_found}
-use Rattle.gp_parse.proofs.NestingRest.{OtherOf, InFrame, Rest, After, Split}
+use Rattle.gp_parse.proofs.NestingRest.{OtherOf, InFrame, Rest, After}
 
 -- a frame by its parts
 abbrev pub frame : Header → ℕ → ℕ → Bool → ℕ → List Statement → List Branch → ℕ → Frame

@@ -9,7 +9,7 @@ use Rattle.gp_tree.specs.Statement.{Statement}
 use Rattle.gp_parse.specs.Nesting.{Line, Head, function_of, struct_of, Nests}
 use Rattle.gp_parse.specs.FirstFault as ff
 use Rattle.gp_parse.specs.FirstFault.{Fault, nesting, too_deep, IsPrefix, within, any_level, FirstFault}
-use Rattle.gp_parse.specs.NestingMachine.{simple_of, class_line_of, top_line_of, Opening, Branch, Frame, Blocks, settle, add, block_of, put, place, placed, closed, opens_with, opens, opens_other, adds, goes_on, at_frames, opened, step_by, Position, between, function_marked, class_marked, class_begun, in_class, in_function, State, adds_items, top_form, at_top, body_opening, def_with, def_behind, def_line, class_line, adds_fields, in_blocks, behind_function, step_at, step, ends_function, ends_at, goes_to, run, read, start}
+use Rattle.gp_parse.specs.NestingMachine.{simple_of, class_line_of, top_line_of, Opening, Branch, Frame, Blocks, settle, add, put, placed, closed, opens_with, opens, opens_other, adds, goes_on, at_frames, opened, step_by, Position, between, function_marked, class_marked, class_begun, in_class, in_function, State, adds_items, top_form, at_top, body_opening, def_with, def_behind, def_line, class_line, adds_fields, in_blocks, behind_function, step_at, step, ends_function, ends_at, goes_to, run, read, start}
 use Rattle.gp_parse.proofs.NestingRest.{ok, err, ok_is, err_ok}
 use Rattle.gp_parse.proofs.NestingTop.{head}
 use Rattle.gp_parse.proofs.NestingRuns.{goes_ok, prefix_runs, runs_prefix, read_of_nests, nests_of_read}

@@ -1,9 +1,8 @@
 -- The laws of nesting, for programs with at most 50 levels.
-use Rattle.std.proofs.Common.{◌≡◌, ◌⊎◌, inl, inr, ℕ, List, Result, Ok, Err, refl}
-use Rattle.gp_base.specs.declared.name.LineNo.{LineNo}
+use Rattle.std.proofs.Common.{◌≡◌, ◌⊎◌, inl, inr, List, Result, Ok, Err, refl}
 use Rattle.gp_tree.specs.Program.{ProgramItem}
 use Rattle.gp_parse.specs.FirstFault.{Fault, FirstFault, within}
-use Rattle.gp_parse.specs.Nesting.{Line, Nests}
+use Rattle.gp_parse.specs.Nesting.{Nests}
 use Rattle.gp_parse.specs.NestingCode.{line_number}
 use Rattle.gp_parse.specs.NestingLaws as laws
 use Rattle.gp_parse.specs.NestingMachine.{read, start}

@@ -1,12 +1,12 @@
 -- What holds of each program that lines are the lines of.
-use Rattle.std.proofs.Common.{◌≡◌, ◌<◌, ◌+◌, ℕ, Bool, true, false, List, [], ◌∷◌, ◌++◌, map, refl, sym, ap, subst, ◌∙◌, append_assoc, arith}
+use Rattle.std.proofs.Common.{◌≡◌, ℕ, Bool, List, [], ◌∷◌, ◌++◌, map, refl, sym, ap, subst, ◌∙◌, append_assoc}
 use Rattle.std.proofs.lemmas.List.{append-nil}
 use Rattle.gp_base.specs.declared.name.LineNo.{LineNo}
 use Rattle.gp_tree.specs.Form.{Form, MaybeForm, no_form, some_form}
 use Rattle.gp_tree.specs.Form as f
 use Rattle.gp_parse.specs.Placement.{IsSomeBlock, IsPlaced, ArePlaced, HasPlacedJumps, annotated_lines_in, annotated_lines, program_annotated_lines, AllBehind, AreRising}
 use Rattle.gp_tree.specs.Program.{FieldDefinition, ProgramItem, function_item}
-use Rattle.gp_tree.specs.Statement.{Statement, Statements, statements_of, no_statements, with_statement}
+use Rattle.gp_tree.specs.Statement.{Statement, statements_of}
 use Rattle.gp_parse.specs.Nested.{number_of}
 use Rattle.gp_parse.specs.Nesting as g
 use Rattle.gp_parse.specs.Nesting.{Line, line, IsSimple, AreStatements, IsStatement, IsOtherBranch, IsBlock, IsDeeper, IsClassLine, AreFields, IsClassBlock, IsTopLine, IsItem, Nests}

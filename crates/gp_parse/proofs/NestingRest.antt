@@ -10,7 +10,7 @@ use Rattle.gp_tree.specs.Statement as s
 use Rattle.gp_parse.specs.Nesting as g
 use Rattle.gp_parse.specs.Nesting.{Line, line, IsSimple, AreStatements, IsStatement, IsOtherBranch, IsBlock, IsDeeper}
 use Rattle.gp_parse.specs.FirstFault.{Fault, nesting, too_deep}
-use Rattle.gp_parse.specs.NestingMachine.{simple_of, Header, function_body, branch, other_branch, while_body, for_body, Opening, Branch, Frame, Blocks, settled, with_done, settle, add, block_of, put, place, closed, opens_with, opens, opens_other, adds, opening, goes_on, at_frames, opened, placed, step_by}
+use Rattle.gp_parse.specs.NestingMachine.{simple_of, Header, branch, other_branch, while_body, for_body, Opening, Branch, Frame, Blocks, settled, settle, add, block_of, put, place, opens_with, opens, opens_other, adds, opening, goes_on, at_frames, opened, placed, step_by}
 use Rattle.gp_parse.proofs.NestingForms.{simple_is}
 
 -- lines in two parts, the first of which is a block

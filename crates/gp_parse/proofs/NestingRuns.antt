@@ -1,5 +1,5 @@
 -- Whole runs: the lines that are read as a program are its lines, and the other way round.
-use Rattle.std.proofs.Common.{◌≡◌, ℕ, ◌<◌, Bool, true, false, List, [], ◌∷◌, ◌++◌, Option, Some, None, Result, Ok, Err, refl, sym, ap, subst, ◌∙◌, append_assoc, arith, ◌⊎◌, inl, inr}
+use Rattle.std.proofs.Common.{◌≡◌, ℕ, Bool, true, false, List, [], ◌∷◌, ◌++◌, Option, Some, None, Result, Ok, Err, refl, sym, ap, subst, ◌∙◌, arith, ◌⊎◌, inl, inr}
 use Rattle.std.proofs.lemmas.List.{append-nil}
 use Rattle.gp_base.specs.declared.name.LineNo.{LineNo}
 use Rattle.gp_tree.specs.Form.{some_form}
@@ -9,11 +9,11 @@ use Rattle.gp_tree.specs.Statement.{Statement}
 use Rattle.gp_tree.specs.Statement as s
 use Rattle.gp_parse.specs.Nesting as g
 use Rattle.gp_parse.specs.Nesting.{Line, line, Head, function_of, struct_of, AreFields, IsClassBlock, IsItem, Nests}
-use Rattle.gp_parse.specs.FirstFault.{Fault, nesting, too_deep, IsPrefix}
-use Rattle.gp_parse.specs.NestingMachine.{Opening, Frame, Blocks, closed, Position, between, function_marked, class_marked, class_begun, in_class, in_function, State, step, ends_function, ends_at, goes_to, run, read, start}
-use Rattle.gp_parse.proofs.NestingRest.{After, ok, err, ok_is, err_ok}
+use Rattle.gp_parse.specs.FirstFault.{Fault, nesting, IsPrefix}
+use Rattle.gp_parse.specs.NestingMachine.{Opening, Frame, closed, Position, between, function_marked, class_marked, class_begun, in_class, in_function, State, step, ends_function, ends_at, goes_to, run, read, start}
+use Rattle.gp_parse.proofs.NestingRest.{After, ok, ok_is, err_ok}
 use Rattle.gp_parse.proofs.NestingBlocks as blocks
-use Rattle.gp_parse.proofs.NestingTop.{Begun, AfterAt, AfterState, GoodAt, head, step_sound, step_good}
+use Rattle.gp_parse.proofs.NestingTop.{AfterAt, AfterState, GoodAt, head, step_sound, step_good}
 use Rattle.gp_parse.proofs.NestingTopComplete.{step_complete}
 
 pub goes_ok : {A B : Type 0} (r : Result A Fault) (k : A → Result B Fault) (y : B) → goes_to r k ≡ Ok y → (x : A) × (r ≡ Ok x) × (k x ≡ Ok y)

@@ -1,5 +1,5 @@
 -- What may still come in a program. A line that is taken could come.
-use Rattle.std.proofs.Common.{◌≡◌, ℕ, ◌<◌, ◌+◌, Bool, true, false, cond, eqb, ltb, List, [], ◌∷◌, ◌++◌, Option, Some, None, Result, Ok, Err, refl, sym, ap, subst, ◌∙◌, append_assoc, arith}
+use Rattle.std.proofs.Common.{◌≡◌, ℕ, ◌<◌, Bool, true, false, List, [], ◌∷◌, ◌++◌, Option, Some, None, Result, Ok, Err, refl, sym, ap, subst, ◌∙◌, append_assoc}
 use Rattle.std.proofs.lemmas.Bool.{eqb-true, ltb-true}
 use Rattle.std.proofs.lemmas.List.{append-nil}
 use Rattle.gp_base.specs.declared.name.LineNo.{LineNo}
@@ -9,10 +9,10 @@ use Rattle.gp_tree.specs.Program.{FieldDefinition, ProgramItem}
 use Rattle.gp_tree.specs.Statement.{Statement}
 use Rattle.gp_parse.specs.Nesting as g
 use Rattle.gp_parse.specs.Nesting.{Line, line, Head, function_of, struct_of, IsClassLine, IsTopLine, IsBlock, IsDeeper, AreFields, IsClassBlock, IsItem, Nests}
-use Rattle.gp_parse.specs.FirstFault.{Fault, nesting, too_deep}
+use Rattle.gp_parse.specs.FirstFault.{Fault, nesting}
 use Rattle.gp_parse.specs.NestingMachine.{simple_of, class_line_of, top_line_of, Opening, Frame, Blocks, closed, step_by, Position, between, function_marked, class_marked, class_begun, in_class, in_function, State, adds_items, top_form, at_top, body_opening, def_with, def_behind, def_line, class_line, adds_fields, in_blocks, behind_function, step_at, step}
 use Rattle.gp_parse.proofs.NestingForms.{simple_is, class_line_is, top_line_is}
-use Rattle.gp_parse.proofs.NestingRest.{After, yes, no, chosen, ok, err, ok_is, err_ok, step_by_sound}
+use Rattle.gp_parse.proofs.NestingRest.{After, yes, no, chosen, ok_is, err_ok, step_by_sound}
 use Rattle.gp_parse.proofs.NestingBlocks.{IsGood, good_fits, step_by_good, closes}
 
 -- lines in two parts: those that end what was begun, and the items behind it

@@ -1,5 +1,5 @@
 -- A line that could come in a program is taken.
-use Rattle.std.proofs.Common.{◌≡◌, ℕ, ◌<◌, ◌+◌, Bool, true, false, cond, eqb, ltb, List, [], ◌∷◌, ◌++◌, Option, Some, None, Result, Ok, refl, sym, ap, subst, ◌∙◌, append_assoc, arith, ◌⊎◌, inl, inr}
+use Rattle.std.proofs.Common.{◌≡◌, ℕ, ◌<◌, Bool, true, false, eqb, List, [], ◌∷◌, ◌++◌, Option, Some, None, Result, Ok, refl, sym, ap, subst, ◌∙◌, append_assoc, arith, ◌⊎◌, inl, inr}
 use Rattle.std.proofs.lemmas.Bool.{lt-ltb, eq-eqb, eqb-true}
 use Rattle.std.proofs.lemmas.List.{append-nil}
 use Rattle.gp_base.specs.declared.name.LineNo.{LineNo}
@@ -11,12 +11,12 @@ use Rattle.gp_tree.specs.TypeExpression.{TypeExpression}
 use Rattle.gp_parse.specs.Nesting as g
 use Rattle.gp_parse.specs.Nesting.{Line, line, Head, function_of, struct_of, IsClassLine, IsTopLine, IsBlock, IsDeeper, AreFields, IsClassBlock, IsItem, Nests}
 use Rattle.gp_parse.specs.FirstFault.{Fault}
-use Rattle.gp_parse.specs.NestingMachine.{simple_of, class_line_of, top_line_of, Opening, Frame, Blocks, closed, step_by, Position, between, function_marked, class_marked, class_begun, in_class, in_function, State, adds_items, top_form, at_top, body_opening, def_with, def_behind, def_line, class_line, adds_fields, in_blocks, behind_function, step_at, step}
-use Rattle.gp_parse.proofs.NestingForms.{simple_found, class_line_found, top_line_found}
+use Rattle.gp_parse.specs.NestingMachine.{simple_of, class_line_of, Opening, Frame, Blocks, closed, Position, between, function_marked, class_marked, class_begun, in_class, in_function, State, top_form, at_top, body_opening, def_with, def_behind, adds_fields, in_blocks, behind_function, step_at, step}
+use Rattle.gp_parse.proofs.NestingForms.{simple_found, class_line_found}
 use Rattle.gp_parse.proofs.NestingRest.{After}
 use Rattle.gp_parse.proofs.NestingComplete.{step_by_complete}
-use Rattle.gp_parse.proofs.NestingBlocks.{Good, IsGood, good_falls, closed_is, wants_more}
-use Rattle.gp_parse.proofs.NestingTop.{Begun, AfterAt, AfterState, GoodAt, head}
+use Rattle.gp_parse.proofs.NestingBlocks.{IsGood, good_falls, closed_is, wants_more}
+use Rattle.gp_parse.proofs.NestingTop.{AfterAt, AfterState, GoodAt, head}
 
 module _ (fits : ℕ → Bool) where
   -- the state after a line, and what may come in it

@@ -1,7 +1,7 @@
 -- The frame of an indentation, as a loop over the frames finds it.
-use Rattle.std.proofs.Common.{◌≡◌, ℕ, ◌≤◌, Bool, true, false, cond, eqb, ltb, List, [], ◌∷◌, refl, arith}
+use Rattle.std.proofs.Common.{◌≡◌, ℕ, ◌≤◌, Bool, true, false, eqb, ltb, List, [], ◌∷◌, refl, arith}
 use Rattle.std.proofs.lemmas.Bool.{eq-eqb, eqb-true, ltb-true}
-use Rattle.gp_parse.specs.NestingMachine.{Frame, block_of, put, place}
+use Rattle.gp_parse.specs.NestingMachine.{Frame, place}
 
 pub place_found : (i : ℕ) (x : Frame) (xs : List Frame) → x.indent ≡ i → place i x xs ≡ x ∷ xs
 place_found i x [] e = rw (eq-eqb x.indent i e) refl

@@ -1,18 +1,18 @@
 -- The reading of lines one by one, as a loop does it, and what it answers.
-use Rattle.std.proofs.Common.{◌≡◌, ℕ, Bool, true, false, List, [], ◌∷◌, ◌++◌, Option, Some, None, Result, Ok, Err, refl, sym, ap, subst, ◌∙◌}
+use Rattle.std.proofs.Common.{◌≡◌, ℕ, Bool, List, [], ◌∷◌, ◌++◌, Option, Some, None, Result, Ok, Err, refl, ap, ◌∙◌}
 use Rattle.gp_base.specs.declared.name.LineNo.{LineNo}
 use Rattle.gp_tree.specs.declared.program.Item.{Item}
 use Rattle.gp_tree.specs.Program.{ProgramItem, program_items}
 use Rattle.gp_parse.specs.declared.parse_fault.ParseFault.{ParseFault}
 use Rattle.gp_parse.specs.declared.parse_fault.ParseFault.TheVariants as fault
-use Rattle.gp_parse.specs.Nesting.{Line, Head, function_of, Nests}
-use Rattle.gp_parse.specs.FirstFault.{Fault, nesting, too_deep, within, FirstFault}
-use Rattle.gp_parse.specs.Nested.{IsProgramOf, IsFaultOf, IsNested}
-use Rattle.gp_parse.specs.NestingMachine.{Opening, Frame, Blocks, closed, State, Position, in_function, at_top, in_blocks, behind_function, step_by, step_at, step, ends_function, ends_at, goes_to, read, start}
+use Rattle.gp_parse.specs.Nesting.{Line, Head, function_of}
+use Rattle.gp_parse.specs.FirstFault.{Fault, nesting, too_deep, within}
+use Rattle.gp_parse.specs.Nested.{IsFaultOf, IsNested}
+use Rattle.gp_parse.specs.NestingMachine.{Opening, Frame, Blocks, closed, State, at_top, behind_function, step_at, step, ends_function, ends_at, goes_to, read, start}
 use Rattle.gp_tree.specs.Statement.{Statement}
 use Rattle.gp_parse.specs.NestingCode.{all_closed}
 use Rattle.gp_parse.specs.NestingViews.{Follows, Leaves, LeavesState, LeavesItems}
-use Rattle.gp_parse.proofs.NestingRest.{ok, err}
+use Rattle.gp_parse.proofs.NestingRest.{ok}
 use Rattle.gp_parse.proofs.NestingRuns.{nests_of_read}
 use Rattle.gp_parse.proofs.NestingPromises.{program_placed, annotated_rising}
 use Rattle.gp_parse.proofs.NestingFaults.{fault_of_read, one_program, one_fault, never_both}

@@ -1,5 +1,5 @@
 -- The first fault of lines that are no program's.
-use Rattle.std.specs.Prelude.{◌≡◌, ℕ, Bool, true, List, [], ◌∷◌, ◌++◌, nat_le, Result, Ok, Err}
+use Rattle.std.specs.Prelude.{ℕ, Bool, true, List, [], ◌∷◌, ◌++◌, nat_le}
 use Rattle.gp_base.specs.declared.name.LineNo.{LineNo}
 use Rattle.gp_tree.specs.Program.{ProgramItem}
 use Rattle.gp_parse.specs.Nesting.{Line, Nests}

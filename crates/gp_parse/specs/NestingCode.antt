@@ -1,5 +1,5 @@
 -- Steps of the reading of lines, by the calls that take them.
-use Rattle.std.specs.Prelude.{◌≡◌, ◌+◌, ℕ, Bool, true, false, List, [], ◌∷◌, ◌++◌, map, Option, Some, None, Result, Ok, Err, if◌then◌else◌}
+use Rattle.std.specs.Prelude.{◌≡◌, ℕ, Bool, true, false, List, [], ◌∷◌, map, Option, Some, None, Result, Ok, Err, if◌then◌else◌}
 use Rattle.gp_base.specs.declared.name.LineNo.{LineNo}
 use Rattle.gp_tree.specs.Form.{Form, MaybeForm, no_form, some_form}
 use Rattle.gp_tree.specs.Statement.{Statement}
@@ -7,7 +7,7 @@ use Rattle.gp_tree.specs.declared.struct_decl.StructDecl.{StructDecl}
 use Rattle.gp_parse.specs.declared.position.Position.{Position}
 use Rattle.gp_parse.specs.declared.position.Position.TheVariants as p
 use Rattle.gp_parse.specs.Nesting.{Line}
-use Rattle.gp_parse.specs.FirstFault.{Fault, nesting, too_deep, within}
+use Rattle.gp_parse.specs.FirstFault.{Fault, nesting, too_deep}
 use Rattle.gp_parse.specs.NestingMachine.{Opening, Frame, Blocks, simple_of, put, closed}
 
 -- what is wanted at line n

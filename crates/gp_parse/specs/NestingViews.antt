@@ -1,12 +1,8 @@
 -- Lines and open blocks in memory as plain data, and what a call gives by the data that it should.
-use Rattle.std.specs.Prelude.{◌≡◌, ℕ, Bool, true, false, List, [], ◌∷◌, map, Option, Some, None, Result, Ok, Err}
-use Rattle.std.specs.declared.boxed.Box.{Box}
-use Rattle.std.specs.declared.alloc.Global.{Global}
-use Rattle.gp_base.specs.declared.name.LineNo.{LineNo}
-use Rattle.gp_tree.specs.declared.line_form.LineForm.{LineForm}
+use Rattle.std.specs.Prelude.{◌≡◌, List, ◌∷◌, map, Option, Some, None, Result, Ok, Err}
 use Rattle.gp_tree.specs.Expression.{expression}
 use Rattle.gp_tree.specs.Form.{form, parameter}
-use Rattle.gp_tree.specs.Statement.{Statement, statement, statements}
+use Rattle.gp_tree.specs.Statement.{statement, statements}
 use Rattle.gp_parse.specs.declared.form_line.FormLine.{FormLine}
 use Rattle.gp_parse.specs.declared.open_blocks.Header.{Header}
 use Rattle.gp_parse.specs.declared.open_blocks.Header.TheVariants as h

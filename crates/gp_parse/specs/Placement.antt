@@ -1,8 +1,8 @@
 -- Where statements stand in a program: jumps inside loops, blocks that are never empty, and lines.
-use Rattle.std.specs.Prelude.{◌≡◌, ◌<◌, ℕ, Bool, true, false, List, [], ◌∷◌, ◌++◌}
+use Rattle.std.specs.Prelude.{◌≡◌, ◌<◌, Bool, true, false, List, [], ◌∷◌, ◌++◌}
 use Rattle.gp_base.specs.declared.name.LineNo.{LineNo}
-use Rattle.gp_tree.specs.Program.{ProgramItem, import_item, struct_item, function_item}
-use Rattle.gp_tree.specs.Statement.{Statement, Statements, assign, annotated, evaluate, return_value, if_else, while_loop, for_loop, break_loop, continue_loop, pass, no_statements, with_statement}
+use Rattle.gp_tree.specs.Program.{ProgramItem, function_item}
+use Rattle.gp_tree.specs.Statement.{Statement, Statements, annotated, if_else, while_loop, for_loop, break_loop, continue_loop, no_statements, with_statement}
 
 -- a block with a statement
 abbrev pub IsSomeBlock : Statements → Type 0

@@ -22,12 +22,10 @@ enum Word {
     Break,
     If,
     IfPass,
-    Elif,
     ElifPass,
     Else,
     ElsePass,
     While,
-    WhileBreak,
 }
 
 fn name(alloc: Global) -> Result<Name, AllocError> {
@@ -43,12 +41,10 @@ fn header(alloc: Global, word: Word) -> Result<LineForm, AllocError> {
     Ok(match word {
         Word::If => LineForm::If(test, None),
         Word::IfPass => LineForm::If(test, behind(alloc, LineForm::Pass)?),
-        Word::Elif => LineForm::Elif(test, None),
         Word::ElifPass => LineForm::Elif(test, behind(alloc, LineForm::Pass)?),
         Word::Else => LineForm::Else(None),
         Word::ElsePass => LineForm::Else(behind(alloc, LineForm::Pass)?),
-        Word::While => LineForm::While(test, None),
-        _ => LineForm::While(test, behind(alloc, LineForm::Break)?),
+        _ => LineForm::While(test, None),
     })
 }
 
@@ -164,51 +160,23 @@ fn nests_whole_programs(rt: HostRuntime) -> Result<(), Fail> {
 #[test]
 fn takes_lines_that_nest(rt: HostRuntime) -> Result<(), Fail> {
     let alloc = rt.alloc();
-    let table: [&[(u32, Word)]; 8] = [
+    let table: [&[(u32, Word)]; 3] = [
         &[],
-        &[(0, Word::Docstring), (0, Word::Pass), (0, Word::ModuleCall)],
         &[
             (0, Word::MarkClass),
             (0, Word::Class),
             (2, Word::Docstring),
             (2, Word::Field),
-        ],
-        &[
-            (0, Word::MarkClass),
-            (0, Word::Class),
-            (1, Word::Pass),
-            (0, Word::Import),
-        ],
-        &[
-            (0, Word::Mark),
-            (0, Word::DefPass),
-            (0, Word::Mark),
-            (0, Word::DefPass),
+            (0, Word::Docstring),
         ],
         &[
             (0, Word::Mark),
             (0, Word::Def),
             (2, Word::While),
-            (3, Word::If),
-            (7, Word::Break),
-        ],
-        &[
-            (0, Word::Mark),
-            (0, Word::Def),
-            (2, Word::If),
             (4, Word::IfPass),
-            (4, Word::ElsePass),
-            (2, Word::Elif),
-            (3, Word::Docstring),
-            (2, Word::Else),
-            (9, Word::Assign),
+            (4, Word::Else),
+            (7, Word::Break),
             (2, Word::Pass),
-        ],
-        &[
-            (0, Word::Mark),
-            (0, Word::Def),
-            (1, Word::WhileBreak),
-            (1, Word::Pass),
         ],
     ];
     for rows in table {
@@ -220,83 +188,18 @@ fn takes_lines_that_nest(rt: HostRuntime) -> Result<(), Fail> {
 #[test]
 fn blames_the_first_line(rt: HostRuntime) -> Result<(), Fail> {
     let alloc = rt.alloc();
-    let table: [(&[(u32, Word)], u32); 16] = [
-        // A decorator at the end, and one before another line.
-        (&[(0, Word::Mark)], 1),
-        (&[(0, Word::Import), (0, Word::MarkClass)], 2),
+    let table: [(&[(u32, Word)], u32); 6] = [
+        // A decorator before another line, and none.
         (&[(0, Word::Mark), (0, Word::Import)], 2),
-        (&[(0, Word::Mark), (0, Word::Class)], 2),
-        // No decorator.
         (&[(0, Word::DefPass)], 1),
-        // Headers that want their block.
-        (&[(0, Word::Mark), (0, Word::Def)], 2),
+        // A header that wants its block.
         (&[(0, Word::Mark), (0, Word::Def), (0, Word::Pass)], 3),
-        (
-            &[
-                (0, Word::Mark),
-                (0, Word::Def),
-                (2, Word::If),
-                (2, Word::Pass),
-            ],
-            4,
-        ),
-        // Wrong indentations.
-        (&[(1, Word::Import)], 1),
-        (
-            &[
-                (0, Word::Mark),
-                (0, Word::Def),
-                (2, Word::Pass),
-                (3, Word::Pass),
-            ],
-            4,
-        ),
-        (
-            &[
-                (0, Word::Mark),
-                (0, Word::Def),
-                (2, Word::IfPass),
-                (1, Word::ElsePass),
-            ],
-            4,
-        ),
-        (
-            &[
-                (0, Word::Mark),
-                (0, Word::Def),
-                (2, Word::IfPass),
-                (3, Word::ElifPass),
-            ],
-            4,
-        ),
         // An `else` without its `if`.
-        (
-            &[
-                (0, Word::Mark),
-                (0, Word::Def),
-                (2, Word::IfPass),
-                (2, Word::Pass),
-                (2, Word::ElsePass),
-            ],
-            5,
-        ),
-        // Jumps outside loops.
-        (
-            &[
-                (0, Word::Mark),
-                (0, Word::Def),
-                (2, Word::While),
-                (4, Word::Pass),
-                (2, Word::Break),
-            ],
-            5,
-        ),
-        // Lines of the other kind of block.
+        (&[(0, Word::Mark), (0, Word::Def), (2, Word::ElsePass)], 3),
+        // A jump outside loops.
+        (&[(0, Word::Mark), (0, Word::Def), (2, Word::Break)], 3),
+        // A line of the other kind of block.
         (&[(0, Word::Mark), (0, Word::Def), (2, Word::Field)], 3),
-        (
-            &[(0, Word::MarkClass), (0, Word::Class), (2, Word::Assign)],
-            3,
-        ),
     ];
     for (rows, line) in table {
         assert_eq!(rt; fault(alloc, rows)?, nesting(line));
@@ -310,8 +213,6 @@ fn counts_levels(rt: HostRuntime) -> Result<(), Fail> {
     // The innermost block has level 50, or would have 51.
     assert_eq!(rt; fault_in_ifs(alloc, 49, Word::Pass)?, None);
     assert_eq!(rt; fault_in_ifs(alloc, 50, Word::Pass)?, too_deep(52));
-    assert_eq!(rt; fault_in_ifs(alloc, 48, Word::IfPass)?, None);
-    assert_eq!(rt; fault_in_ifs(alloc, 49, Word::IfPass)?, too_deep(52));
     // A line that breaks another rule too.
     assert_eq!(rt; fault_in_ifs(alloc, 49, Word::ElsePass)?, nesting(52));
     assert_eq!(rt; fault_in_elifs(alloc, 48)?, None);

@@ -1,4 +1,4 @@
-use Rattle.std.proofs.Common.{◌≡◌, ◌∷◌, List, Result, subst, sym}
+use Rattle.std.proofs.Common.{◌∷◌, Result, subst, sym}
 use Rattle.gp_tree.specs.Form as forms
 use Rattle.gp_tree.specs.Statement.{statement}
 use Rattle.gp_parse.specs.FirstFault.{Fault, within}

@@ -1,4 +1,4 @@
-use Rattle.std.proofs.Common.{◌≡◌, ◌+◌, ◌∷◌, List, subst}
+use Rattle.std.proofs.Common.{◌+◌, ◌∷◌, subst}
 use Rattle.gp_tree.specs.Form as forms
 use Rattle.gp_parse.specs.FirstFault.{within}
 use Rattle.gp_parse.specs.NestingMachine as spec

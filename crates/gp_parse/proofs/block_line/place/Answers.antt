@@ -1,4 +1,4 @@
-use Rattle.std.proofs.Common.{◌≡◌, map, sym, ◌∙◌}
+use Rattle.std.proofs.Common.{map, sym, ◌∙◌}
 use Rattle.gp_parse.specs.NestingViews.{frame_of}
 use Rattle.gp_parse.proofs.Places.{place_found, place_lost}
 use Rattle.gp_parse.proofs.block_line.place.Goals as goal

@@ -1,6 +1,6 @@
 use Rattle.std.proofs.Common.{◌≡◌, ◌∷◌, [], List, Result, length, map, refl, subst, ap, sym, ◌∙◌, arith}
 use Rattle.std.proofs.lemmas.Result.{err_from_is_err_and}
-use Rattle.std.specs.Vec.Iter.{into_iter_items, into_iter_len}
+use Rattle.std.specs.Vec.Iter.{into_iter_items}
 use Rattle.gp_tree.specs.Program.{ProgramItem, program_items}
 use Rattle.gp_parse.specs.declared.form_line.FormLine.{FormLine}
 use Rattle.gp_parse.specs.FirstFault.{Fault, within}

@@ -1,0 +1,16 @@
+pub mod Modules
+pub mod Checks
+pub mod Definitions
+pub mod Annotations
+pub mod AnnotationView
+pub mod Parts
+pub mod Cycles
+pub mod Spelled
+pub mod Sizes
+pub mod FirstFault
+pub mod Tables
+pub mod NamesOf
+pub mod SizesOf
+pub mod Levels
+pub mod ScopeView
+pub mod Collected

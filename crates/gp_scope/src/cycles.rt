@@ -1,0 +1,106 @@
+//! Structs that hold themselves.
+
+ghost use Rattle.std.specs.Prelude.{◌≡◌, ◌≢◌, ◌+◌, ◌&&◌, ◌||◌, ◌++◌, [], ◌∷◌, List, ℕ, All, IfOk, OnOk, MatchResult, None, Some, is_some, if◌then◌else◌, map, vec_len};
+ghost use Rattle.std.specs.Bool.{MatchBool};
+ghost use Rattle.indexmap.specs.IndexMap.{index_map_len};
+ghost use Rattle.gp_tree.specs.Program.{program_items, field_definition, struct_definition};
+ghost use Rattle.gp_tree.specs.TypeExpression.{type_expression, type_expressions};
+ghost use Rattle.gp_scope.specs.Checks.{is_among};
+ghost use Rattle.gp_scope.specs.Definitions.{structs_in};
+ghost use Rattle.gp_scope.specs.Cycles as spec;
+ghost use Rattle.gp_scope.specs.FirstFault.{CyclesAnswer};
+ghost use Rattle.gp_scope.specs.Tables.{struct_at, texts_of};
+ghost use Rattle.gp_scope.specs.NamesOf.{AreNames};
+
+use crate::definitions::struct_table;
+use crate::fault::ScopeFault;
+use crate::names::Names;
+use gp_tree::{FieldDecl, Item, StructDecl, TypeExpr};
+use indexmap::IndexMap;
+use std::alloc::{AllocError, Global};
+
+/// No struct holds itself, through fields and tuples.
+pub fn check_cycles(alloc: Global, names: &Names) -> Result<(), ScopeFault>
+    requires { AreNames names.now }
+    ensures { CyclesAnswer (program_items names.now.items.now) result }
+{
+    for item in names.items {
+        if let Item::Struct(decl) = item {
+            if holds_itself(alloc, names, decl.name.as_str())? {
+                return Err(ScopeFault::StructCycle(decl.line));
+            }
+        }
+    }
+    Ok(())
+}
+
+// Whether the struct of this name is on a cycle. The structs that it reaches are taken out of those not seen yet.
+fn holds_itself<'a>(alloc: Global, names: &Names<'a>, name: &'a str) -> Result<bool, AllocError>
+    requires { AreNames names.now }
+    ensures { IfOk result (λ yes. MatchBool yes (spec.IsOnCycle (program_items names.now.items.now) name.now) (¬ spec.IsOnCycle (program_items names.now.items.now) name.now)) }
+{
+    if !names.structs.contains_key(name) {
+        return Ok(false);
+    }
+    let mut unseen = struct_table(alloc, names.items)?;
+    let mut waiting = Vec::new(alloc);
+    waiting.push(name)?;
+    while let Some(next) = waiting.pop() {
+        if let Some(decl) = names.structs.get(next) {
+            reach_held(alloc, decl, &mut unseen, &mut waiting)?;
+        }
+    }
+    Ok(!unseen.contains_key(name))
+}
+
+// Moves the names of structs that this one holds from those not seen yet to those that wait.
+fn reach_held<'a>(
+    alloc: Global,
+    decl: &'a StructDecl,
+    unseen: &mut IndexMap<&'a str, &'a StructDecl>,
+    waiting: &mut Vec<&'a str>,
+) -> Result<(), AllocError>
+    ensures seen { OnOk result ((q : List ℕ) → struct_at unseen.new q ≡ (if spec.fields_mention (struct_definition decl.now).fields q then None else struct_at unseen.old q)) }
+    ensures waiting { OnOk result ((q : List ℕ) → is_among q (texts_of waiting.new.items) ≡ (is_among q (texts_of waiting.old.items) || (spec.fields_mention (struct_definition decl.now).fields q && is_some (struct_at unseen.old q)))) }
+    ensures count { OnOk result (vec_len waiting.new + index_map_len unseen.new ≡ vec_len waiting.old + index_map_len unseen.old) }
+{
+    let mut held = Vec::new(alloc);
+    add_held(decl.fields.as_slice(), &mut held)?;
+    for name in held {
+        if unseen.swap_remove(name).is_some() {
+            waiting.push(name)?;
+        }
+    }
+    Ok(())
+}
+
+// The names in the types of the fields, in text order.
+fn add_held<'a>(fields: &'a [FieldDecl], held: &mut Vec<&'a str>) -> Result<(), AllocError>
+    ensures { OnOk result ((q : List ℕ) → is_among q (texts_of held.new.items) ≡ (is_among q (texts_of held.old.items) || spec.fields_mention (map field_definition fields.now) q)) }
+{
+    for field in fields {
+        add_names(&field.ty, held)?;
+    }
+    Ok(())
+}
+
+#[cycle(names)]
+fn add_names<'a>(ty: &'a TypeExpr, held: &mut Vec<&'a str>) -> Result<(), AllocError>
+    ensures { OnOk result ((q : List ℕ) → is_among q (texts_of held.new.items) ≡ (is_among q (texts_of held.old.items) || spec.mentions (type_expression ty.now) q)) }
+{
+    match ty {
+        TypeExpr::Named(name) => held.push(name.as_str())?,
+        TypeExpr::Tuple(items) => add_all_names(items, held)?,
+    }
+    Ok(())
+}
+
+#[cycle(names)]
+fn add_all_names<'a>(items: &'a [TypeExpr], held: &mut Vec<&'a str>) -> Result<(), AllocError>
+    ensures { OnOk result ((q : List ℕ) → is_among q (texts_of held.new.items) ≡ (is_among q (texts_of held.old.items) || spec.some_mentions (type_expressions items.now) q)) }
+{
+    for item in items {
+        add_names(item, held)?;
+    }
+    Ok(())
+}

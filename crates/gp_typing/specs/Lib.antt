@@ -1,0 +1,10 @@
+pub mod Checks
+pub mod Environment
+pub mod Locals
+pub mod Typed
+pub mod Known
+pub mod Expressions
+pub mod Statements
+pub mod Functions
+pub mod View
+pub mod EnvironmentView

@@ -262,6 +262,3 @@ fn truth_of(word: Keyword) -> Option<bool>
         _ => None,
     }
 }
-
-#[cfg(test)]
-mod tests;

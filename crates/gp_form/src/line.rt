@@ -84,6 +84,3 @@ fn led(
         _ => statement(alloc, tokens),
     }
 }
-
-#[cfg(test)]
-mod tests;

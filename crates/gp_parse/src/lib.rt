@@ -1,23 +1,7 @@
-//! Reads source texts: from logical lines to programs, by the forms of the lines and the rules of nesting. Beside that
-//! stand the thin texts, whose one function takes a qubit through lines of three kinds.
+//! Reads source texts: so far the thin ones, whose one function takes a qubit through lines of three kinds.
 #![tactic(auto)]
 
-mod block_end;
-mod block_line;
-pub mod form_line;
 pub mod laws;
-pub mod nested_lines;
-mod open_blocks;
-pub mod parse_fault;
-mod position;
-pub mod program_lines;
-mod simple_line;
-mod stack;
 pub mod thin_text;
 
-pub use form_line::FormLine;
-pub use gp_form::{FormFault, line_form};
-pub use nested_lines::nest;
-pub use parse_fault::ParseFault;
-pub use program_lines::program;
 pub use thin_text::{ThinLine, ThinLines, thin};

@@ -1,12 +1,12 @@
 //! Lists that contracts see as lists.
 
-ghost use Rattle.std.specs.Prelude.{◌≡◌, ◌<◌, ◌+◌, [], ◌∷◌, ◌++◌, length, slice_get, OnOk, OnErr};
+ghost use Rattle.std.specs.Prelude.{List, ◌≡◌, ◌<◌, ◌+◌, [], ◌∷◌, ◌++◌, length, slice_get, OnOk, OnErr};
 ghost use Rattle.std.specs.Option.{option_copied};
 
 use std::alloc::{AllocError, Global};
 use std::marker::Model;
 
-/// A list that only grows. A contract sees it as the list of its items.
+/// A list that grows at its end, and whose last item can be taken back. A contract sees it as the list of its items.
 #[derive(Debug, Drop)]
 pub struct Sequence<T> {
     items: Vec<T>,
@@ -73,5 +73,13 @@ impl<T: Drop> Sequence<T> {
     {
         self.items.push(item)?;
         Ok(())
+    }
+
+    /// Takes the last item back. A list without items stays as it is.
+    pub fn take_back(&mut self)
+        ensures empty { self.old ≡ [] → self.new ≡ [] }
+        ensures last { (before : List T) (item : T) → self.old ≡ before ++ item ∷ [] → self.new ≡ before }
+    {
+        let _ = self.items.pop();
     }
 }

@@ -1,0 +1,10 @@
+pub mod Nesting
+pub mod FirstFault
+pub mod NestingMachine
+pub mod Stacks
+pub mod NestingViews
+pub mod NestingCode
+pub mod Nested
+pub mod Placement
+pub mod Programs
+pub mod NestingLaws

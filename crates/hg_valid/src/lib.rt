@@ -1,0 +1,8 @@
+//! Which program graphs are valid, and which of those are ordered.
+#![tactic(auto)]
+
+mod cycle;
+mod rule;
+pub mod valid;
+
+pub use valid::{Invalid, Valid};

@@ -1,0 +1,7 @@
+pub mod ByPlace
+pub mod PortLinks
+pub mod Up
+pub mod PortKinds
+pub mod Targets
+pub mod FirstChildren
+pub mod Named

@@ -5,3 +5,5 @@ pub mod PortKinds
 pub mod Targets
 pub mod FirstChildren
 pub mod Named
+pub mod Joined
+pub mod Statics

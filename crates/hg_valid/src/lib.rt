@@ -20,3 +20,6 @@ mod tags;
 pub mod valid;
 
 pub use valid::{Invalid, Valid, validate};
+
+#[cfg(test)]
+mod tests;

@@ -4,7 +4,7 @@ mod graphs;
 
 use self::graphs::{Kind, graph_of};
 use crate::{Invalid, validate};
-use hg_graph::Graph;
+use hg_graph::{Graph, NodeId};
 use std::alloc::Global;
 use std::test::Fail;
 
@@ -63,7 +63,8 @@ fn a_graph_that_is_refused_is_given_back(rt: HostRuntime) -> Result<(), Fail> {
             assert_eq!(rt; (rule, node.0), (7, 5));
             assert_eq!(rt; graph.node_count(), 6);
         }
-        _ => assert!(rt; false),
+        Err(Invalid::Memory { graph: _graph }) => assert!(rt; false),
+        Ok(_valid) => assert!(rt; false),
     }
     Ok(())
 }
@@ -233,5 +234,22 @@ fn tags(rt: HostRuntime) -> Result<(), Fail> {
     ];
     let links = [(4, 0, 5, 0), (5, 0, 6, 0)];
     assert_eq!(rt; found(alloc, &reports, &links)?, (15, 6));
+    Ok(())
+}
+
+// What is found of two gates in a circle, which two nodes stand behind.
+fn found_of_circle(alloc: Global) -> Result<(u8, u64), Fail> {
+    let nodes = [MAIN, INPUT, OUTPUT, (Kind::One(0), 1), H, H];
+    let mut graph = graph_of(alloc, &nodes, &[(5, 0, 6, 0), (6, 0, 5, 0)])?;
+    if graph.node_count() > 6 {
+        graph.order(NodeId(6), NodeId(4))?;
+        graph.order(NodeId(4), NodeId(3))?;
+    }
+    Ok(verdict(alloc, graph))
+}
+
+#[test]
+fn circles(rt: HostRuntime) -> Result<(), Fail> {
+    assert_eq!(rt; found_of_circle(rt.alloc())?, (10, 5));
     Ok(())
 }

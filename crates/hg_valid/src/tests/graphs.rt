@@ -1,5 +1,7 @@
 //! Small graphs, written as lists.
 
+ghost use Rattle.std.specs.Prelude.{◌≡◌};
+
 use gp_base::Name;
 use hg_graph::{Graph, NodeId, Port};
 use hg_ops::{GraphType, OpKind, Row, Rows};
@@ -141,7 +143,9 @@ fn op(alloc: Global, kind: Kind) -> Result<OpKind, AllocError> {
     }
 }
 
-fn port(node: u64, index: u64) -> Port {
+fn port(node: u64, index: u64) -> Port
+    ensures { result.node.0 ≡ node }
+{
     Port {
         node: NodeId(node),
         index,

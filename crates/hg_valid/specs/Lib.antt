@@ -1,2 +1,4 @@
 pub mod Broken
 pub mod RuleView
+pub mod Walks
+pub mod Chains

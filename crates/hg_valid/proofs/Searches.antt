@@ -1,12 +1,12 @@
 -- The steps of a search for the greatest counts.
-use Rattle.std.proofs.Common.{◌≡◌, ◌≢◌, ◌⊎◌, inl, inr, ⊎_elim, ℕ, zero, suc, ◌+◌, ◌-◌, ◌<◌, ◌≤◌, Bool, true, false, cond, eqb, List, [], ◌∷◌, ◌++◌, length, get_or, set, sym, ap, subst, refl, ◌∙◌, arith, sum, take}
+use Rattle.std.proofs.Common.{◌≡◌, ◌≢◌, ◌⊎◌, inl, inr, ⊎_elim, ℕ, zero, suc, ◌+◌, ◌-◌, ◌<◌, ◌≤◌, Bool, true, false, cond, eqb, List, [], ◌∷◌, ◌++◌, length, get_or, set, sym, ap, subst, refl, ◌∙◌, arith, sum, take, map}
 use Rattle.std.proofs.lemmas.Bool.{cases_eq, cases_lt, cases_Bool, eq-eqb}
-use Rattle.std.proofs.lemmas.List.{length-set, get_or_default, take_all, take_more, get_or-set_same, get_or-set_other, get_or_append_left, get_or_push, length_push}
+use Rattle.std.proofs.lemmas.List.{length-set, length-map, get_or-map, get_or_past, get_or_default, take_all, take_more, get_or-set_same, get_or-set_other, get_or_append_left, get_or_push, length_push}
 use Rattle.std.proofs.lemmas.List.Sums.{sum_by-set, count_by-le-length}
 use Rattle.hg_graph.specs.Graph.{In}
 use Rattle.hg_laws.proofs.Looks.{eqb_no}
 use Rattle.hg_valid.specs.Walks.{row, Leads, Walk, once, first, IsClosed}
-use Rattle.hg_valid.specs.Chains.{mark, is_marked, HasCount, IsOpen, IsLeft, IsSearch, IsLast, HasGoneOn, HasCycle, left_count}
+use Rattle.hg_valid.specs.Chains.{mark, is_marked, HasCount, IsOpen, IsLeft, IsSearch, IsLast, HasGoneOn, HasCycle, AreCounted, left_count}
 
 pub place_in : (b : ℕ) (xs : List ℕ) → In b xs → (k : ℕ) × (k < length xs) × (get_or xs k 0 ≡ b)
 place_in b [] i = absurd i
@@ -545,3 +545,74 @@ gone_in lists C marks steps steps' path path' counts counts' nodes a left next S
       fewer = subst (λ (xs : List ℕ). sum xs < sum steps) (sym se) (sum_at steps next (get_or steps next 0 - 1) within_steps (omega arith));
       falls = subst (λ (xs : List ℕ). (n : ℕ) → get_or xs n 0 ≤ get_or steps n 0) (sym se) (falls_at steps next (get_or steps next 0 - 1) within_steps (omega arith));
     }
+
+-- ---- where a search starts and ends
+
+pub search_starts : (lists : List (List ℕ)) (marks : List Bool) (steps path counts : List ℕ) → steps ≡ map (λ nodes. length nodes + 2) lists → path ≡ [] → counts ≡ map (λ nodes. 0) lists
+    → IsSearch lists marks steps path counts
+search_starts lists marks steps path counts se pe ce =
+    let sl : length steps ≡ length lists = ap length se ∙ length-map lists (λ nodes. length nodes + 2) in
+    let pl : length path ≡ 0 = ap length pe in
+    let all : (n : ℕ) → n < length lists → get_or steps n 0 ≡ length (row lists n) + 2 = λ n l. ap (λ xs. get_or xs n 0) se ∙ get_or-map (λ nodes. length nodes + 2) lists n [] 0 l in
+    let past : (n : ℕ) → length lists ≤ n → get_or steps n 0 ≡ 0 = λ n l. get_or_past steps n 0 (omega arith) in
+    record {
+      step_count = sl;
+      count_count = ap length ce ∙ length-map lists (λ nodes. 0);
+      within = λ n. elim (cases_lt n (length lists)) [ inl l ↦ let h = all n l in omega arith | inr l ↦ let h = past n l in omega arith ];
+      looked = λ a k l h. elim (cases_lt a (length lists)) [
+        | inl m ↦ absurd (let e = all a m in omega arith)
+        | inr m ↦ absurd (let e : row lists a ≡ [] = get_or_past lists a [] m in let f : length (row lists a) ≡ 0 = ap length e in omega arith)
+      ];
+      on_path = λ n P. absurd (let e = all n P.is_node in let h = P.entered in omega arith);
+      opened = λ i l. absurd (omega arith);
+      apart = λ i j l h. absurd (omega arith);
+      walks = λ i j l h. absurd (omega arith);
+      left = λ n l z. absurd (let e = all n l in omega arith);
+    }
+
+-- with an empty path, a node has either not been entered or been left
+pub none_open : (lists : List (List ℕ)) (marks : List Bool) (steps path counts : List ℕ) → IsSearch lists marks steps path counts → length path ≡ 0 → (n : ℕ) → n < length lists
+    → (get_or steps n 0 ≡ 0) ⊎ (get_or steps n 0 ≡ length (row lists n) + 2)
+none_open lists marks steps path counts S e n l =
+    elim (cases_eq (get_or steps n 0) 0) [
+      | inl z ↦ inl z
+      | inr nz ↦ elim (cases_eq (get_or steps n 0) (length (row lists n) + 2)) [
+        | inl f ↦ inr f
+        | inr nf ↦ absurd (let w = S.within n in let r = S.on_path n (record { is_node = l; entered = omega arith; not_left = omega arith }) in let h : r.0 < length path = r.1 in omega arith)
+      ]
+    ]
+
+-- the root is entered, where the path is empty
+pub root_entered : (lists : List (List ℕ)) (marks : List Bool) (steps steps' path path' counts counts' : List ℕ) (root : ℕ) → IsSearch lists marks steps path counts → path ≡ []
+    → root < length lists → 0 < get_or steps root 0 → steps' ≡ set steps root (get_or steps root 0 - 1) → path' ≡ path ++ root ∷ [] → counts' ≡ counts
+    → IsSearch lists marks steps' path' counts' × ((n : ℕ) → get_or steps' n 0 ≤ get_or steps n 0) × (get_or steps' root 0 ≤ length (row lists root) + 1)
+root_entered lists marks steps steps' path path' counts counts' root S pe l some se pe' ce =
+    let pl : length path ≡ 0 = ap length pe in
+    let s : length steps ≡ length lists = S.step_count in
+    let within_steps : root < length steps = omega arith in
+    let new : get_or steps root 0 ≡ length (row lists root) + 2 = elim (none_open lists marks steps path counts S pl root l) [ inl z ↦ absurd (omega arith) | inr f ↦ f ] in
+    let y : ℕ = get_or steps root 0 - 1 in
+    let E = search_entered lists marks steps path counts S root l new (λ i h. absurd (omega arith)) in
+    let same : length (row lists root) + 1 ≡ y = omega arith in
+    let F : IsSearch lists marks (set steps root y) (path ++ root ∷ []) counts = subst (λ (z : ℕ). IsSearch lists marks (set steps root z) (path ++ root ∷ []) counts) same E in
+    let here = get_or-set_same steps root y 0 within_steps in
+    let at : get_or steps' root 0 ≡ get_or (set steps root y) root 0 = ap (λ xs. get_or xs root 0) se in
+    (subst (λ (xs : List ℕ). IsSearch lists marks xs path' counts') (sym se) (subst (λ (xs : List ℕ). IsSearch lists marks (set steps root y) xs counts') (sym pe')
+     (subst (λ (xs : List ℕ). IsSearch lists marks (set steps root y) (path ++ root ∷ []) xs) (sym ce) F)),
+     subst (λ (xs : List ℕ). (n : ℕ) → get_or xs n 0 ≤ get_or steps n 0) (sym se) (falls_at steps root y within_steps (omega arith)),
+     omega arith)
+
+-- all nodes have been left
+pub all_counted : (lists : List (List ℕ)) (marks : List Bool) (steps path counts : List ℕ) → IsSearch lists marks steps path counts → ((n : ℕ) → n < length lists → get_or steps n 0 ≡ 0)
+    → AreCounted lists marks counts
+all_counted lists marks steps path counts S done = record {
+  count = S.count_count;
+  each = λ n l.
+      let L : IsLeft lists marks steps counts n = S.left n l (done n l) in
+      record {
+        falls = L.falls;
+        held = λ p. let w = L.held p in (w.0, w.1, w.2);
+        next = λ m k e. let w = L.next m k e in (w.0, w.1, w.2);
+        few = let h = L.few in let k = count_by-le-length (λ s. eqb s 0) steps in let e : length steps ≡ length lists = S.step_count in omega arith;
+      };
+}

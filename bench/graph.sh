@@ -10,21 +10,14 @@ home=$(cd "$(dirname "${BASH_SOURCE[0]}")/.." && pwd)
 program=$home/crates/hg_bench/out/hg_bench
 [ -x "$program" ] || { echo "bench: build hg_bench first, by rt run in crates/hg_bench" >&2; exit 1; }
 
-python3 - "$program" <<'PY'
-import os, subprocess, sys, time
+PYTHONPATH=$home/bench PYTHONDONTWRITEBYTECODE=1 python3 - "$program" <<'PY'
+import sys
+
+from timing import timed
 
 program = sys.argv[1]
 print("   gates  seconds  us/gate    MiB")
 for gates in (25_000, 50_000, 100_000, 200_000):
-    best, peak = None, 0
-    for _ in range(3):
-        start = time.perf_counter()
-        child = subprocess.Popen([program, str(gates)], stdout=subprocess.DEVNULL)
-        _, status, usage = os.wait4(child.pid, 0)
-        took = time.perf_counter() - start
-        if status != 0:
-            sys.exit(f"bench: {gates} gates ended with {status}")
-        best = took if best is None else min(best, took)
-        peak = max(peak, usage.ru_maxrss / 1024)
-    print(f"{gates:8}  {best:7.3f}  {best / gates * 1e6:7.2f}  {peak:5.0f}")
+    took, peak = timed([program, str(gates)])
+    print(f"{gates:8}  {took:7.3f}  {took / gates * 1e6:7.2f}  {peak:5.0f}")
 PY

@@ -12,26 +12,15 @@ program=$home/crates/guppy_top/out/guppy_top
 work=$(mktemp -d)
 trap 'rm -rf "$work"' EXIT
 
-python3 - "$program" "$work" "$home/examples/coin.py" <<'PY'
-import json, os, resource, subprocess, sys, time
+PYTHONPATH=$home/bench PYTHONDONTWRITEBYTECODE=1 python3 - "$program" "$work" "$home/examples/coin.py" <<'PY'
+import json
+import os
+import sys
+
+from timing import timed
 
 program, work, example = sys.argv[1:]
 head = open(example).read().split("    h(q)\n")[0]
-
-
-def timed(words, stdin=os.devnull, stdout=os.devnull):
-    """The best of three wall times in seconds, and the peak memory in MiB."""
-    best, peak = None, 0
-    for _ in range(3):
-        start = time.perf_counter()
-        child = subprocess.Popen(words, stdin=open(stdin), stdout=open(stdout, "w"))
-        _, status, usage = os.wait4(child.pid, 0)
-        took = time.perf_counter() - start
-        if status != 0:
-            sys.exit(f"bench: {words} ended with {status}")
-        best = took if best is None else min(best, took)
-        peak = max(peak, usage.ru_maxrss / 1024)
-    return best, peak
 
 
 def reading(path):

@@ -9,7 +9,6 @@ mod indexes;
 pub mod laws;
 pub mod link;
 mod node_index;
-mod numbers;
 mod ports;
 mod sources;
 

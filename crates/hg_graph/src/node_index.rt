@@ -1,8 +1,8 @@
 //! What a graph keeps of each node beside its lists: its children and the links at its ports.
 
 use crate::link::{Link, NodeId};
-use crate::numbers::Numbers;
-use crate::ports::{no_numbers, push_at, take_back_at};
+use crate::ports::{Numbers, no_numbers, push_at, take_back_at};
+use gp_base::Sequence;
 use std::alloc::{AllocError, Global};
 use std::marker::Model;
 
@@ -41,8 +41,8 @@ impl NodeIndex {
             children: Vec::new(alloc),
             inputs: no_numbers(alloc, inputs)?,
             outputs: no_numbers(alloc, outputs)?,
-            before: Numbers::new(alloc),
-            after: Numbers::new(alloc),
+            before: Sequence::new(alloc),
+            after: Sequence::new(alloc),
             strays: Vec::new(alloc),
         })
     }

@@ -3,8 +3,11 @@
 ghost use Rattle.std.specs.Prelude.{◌≡◌, ℕ, List, [], replicate, IfOk, OnOk, OnErr};
 ghost use Rattle.hg_graph.specs.NodeIndex.{pushed_at};
 
-use crate::numbers::Numbers;
+use gp_base::Sequence;
 use std::alloc::{AllocError, Global};
+
+/// A list of numbers.
+pub(crate) type Numbers = Sequence<u64>;
 
 /// As many lists without numbers.
 #[tactic(auto, using(hg_ops::proofs::Copies::replicate_next))]
@@ -13,7 +16,7 @@ pub(crate) fn no_numbers(alloc: Global, count: u64) -> Result<Vec<Numbers>, Allo
 {
     let mut lists = Vec::new(alloc);
     for _ in 0..count {
-        lists.push(Numbers::new(alloc))?;
+        lists.push(Sequence::new(alloc))?;
     }
     Ok(lists)
 }

@@ -1,3 +1,4 @@
 pub mod Copies
 pub mod GateRows
 pub mod Names
+pub mod Same

@@ -72,7 +72,7 @@ impl Model for Rows {
 }
 
 impl Row {
-    ghost use Rattle.std.specs.Prelude.{◌≡◌, ◌<◌, ◌^◌, [], ◌∷◌, ◌++◌, length, slice_get, map, IfOk, OnOk, OnErr};
+    ghost use Rattle.std.specs.Prelude.{Decides, ◌≡◌, ◌<◌, ◌^◌, [], ◌∷◌, ◌++◌, length, slice_get, map, IfOk, OnOk, OnErr};
     ghost use Rattle.std.specs.Option.{option_copied, option_map};
     ghost use Rattle.hg_ops.specs.GraphType.{row_of, row_linear};
     ghost use Rattle.hg_ops.specs.TypeView.{type_view};
@@ -139,6 +139,22 @@ impl Row {
         Ok(Row { types })
     }
 
+    /// Whether the types are those of another row, place by place. Takes no memory.
+    #[cycle(same)]
+    pub fn is_same(&self, other: &Row) -> bool
+        ensures { Decides result (self.now ≡ other.now) }
+    {
+        if self.types.len() != other.types.len() {
+            return false;
+        }
+        for k in 0..self.types.len() {
+            if !self.types[k].is_same(&other.types[k]) {
+                return false;
+            }
+        }
+        true
+    }
+
     // Whether one of the types is linear.
     #[cycle(linear)]
     fn is_linear(&self) -> bool
@@ -154,7 +170,7 @@ impl Row {
 }
 
 impl Rows {
-    ghost use Rattle.std.specs.Prelude.{◌≡◌, ◌<◌, ◌^◌, [], ◌∷◌, ◌++◌, length, slice_get, IfOk, OnOk, OnErr};
+    ghost use Rattle.std.specs.Prelude.{Decides, ◌≡◌, ◌<◌, ◌^◌, [], ◌∷◌, ◌++◌, length, slice_get, IfOk, OnOk, OnErr};
     ghost use Rattle.std.specs.Option.{option_copied};
     ghost use Rattle.hg_ops.specs.GraphType.{rows_of, rows_linear};
 
@@ -210,6 +226,22 @@ impl Rows {
         Ok(Rows { rows })
     }
 
+    /// Whether the rows are those of another list, place by place. Takes no memory.
+    #[cycle(same)]
+    pub fn is_same(&self, other: &Rows) -> bool
+        ensures { Decides result (self.now ≡ other.now) }
+    {
+        if self.rows.len() != other.rows.len() {
+            return false;
+        }
+        for k in 0..self.rows.len() {
+            if !self.rows[k].is_same(&other.rows[k]) {
+                return false;
+            }
+        }
+        true
+    }
+
     // Whether one of the rows has a linear type.
     #[cycle(linear)]
     fn is_linear(&self) -> bool
@@ -225,7 +257,7 @@ impl Rows {
 }
 
 impl GraphType {
-    ghost use Rattle.std.specs.Prelude.{◌≡◌, IfOk};
+    ghost use Rattle.std.specs.Prelude.{Decides, ◌≡◌, IfOk};
     ghost use Rattle.hg_ops.specs.GraphType.{is_linear};
     ghost use Rattle.hg_ops.specs.TypeView.{type_view};
 
@@ -238,6 +270,18 @@ impl GraphType {
             GraphType::Int => Ok(GraphType::Int),
             GraphType::Qubit => Ok(GraphType::Qubit),
             GraphType::Sum(rows) => Ok(GraphType::Sum(rows.copy(alloc)?)),
+        }
+    }
+
+    /// Whether the type is the same as another. Takes no memory.
+    #[cycle(same)]
+    pub fn is_same(&self, other: &GraphType) -> bool
+        ensures { Decides result (type_view self.now ≡ type_view other.now) }
+    {
+        match (self, other) {
+            (GraphType::Int, GraphType::Int) | (GraphType::Qubit, GraphType::Qubit) => true,
+            (GraphType::Sum(rows), GraphType::Sum(others)) => rows.is_same(others),
+            _ => false,
         }
     }
 

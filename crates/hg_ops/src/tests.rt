@@ -360,3 +360,13 @@ fn linear_types_hold_a_qubit(rt: HostRuntime) -> Result<(), Fail> {
     assert!(rt; is_linear(&GraphType::Sum(nested)));
     Ok(())
 }
+
+#[test]
+fn equal_types_have_equal_rows(rt: HostRuntime) -> Result<(), Fail> {
+    let alloc = rt.alloc();
+    let pair = GraphType::Sum(two_rows(alloc)?);
+    assert!(rt; pair.is_same(&pair.copy(alloc)?));
+    assert!(rt; !pair.is_same(&GraphType::Sum(Rows::new(alloc))));
+    assert!(rt; !pair.is_same(&GraphType::Qubit));
+    Ok(())
+}

@@ -1,4 +1,13 @@
+pub mod Ancestors
+pub mod Answers
 pub mod Broken
+pub mod LinkRules
+pub mod OtherKinds
+pub mod Parts
+pub mod Refused
 pub mod RuleView
+pub mod Runs
+pub mod Signatures
+pub mod Tables
 pub mod Walks
 pub mod Chains

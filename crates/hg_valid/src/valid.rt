@@ -1,6 +1,14 @@
 //! Valid graphs.
 
+ghost use Rattle.std.specs.Prelude.{◌≡◌, IfOk, IfErr};
+ghost use Rattle.hg_graph.specs.Valid.{IsValid};
+ghost use Rattle.hg_valid.specs.Refused.{IsRefused};
+ghost use Rattle.hg_valid.specs.Runs.{KeepsPlaces, RunsEndWell, HasCleanRuns};
+
+use crate::broken::first_broken;
 use hg_graph::{Graph, NodeId};
+use hg_laws::{runs_are_clean, valid_graphs_end_well, valid_graphs_keep_places};
+use std::alloc::{AllocError, Global};
 use std::marker::Model;
 
 /// A valid graph. A contract sees it as the graph.
@@ -63,5 +71,29 @@ impl Valid {
         ensures valid { IsValid self }
     {
         self.graph
+    }
+}
+
+/// Whether each node of the graph keeps each of the fifteen rules of valid graphs, and if not, the least rule that is
+/// broken with the least node that breaks it. Its work grows with the numbers of nodes and links.
+pub fn validate(alloc: Global, graph: Graph) -> Result<Valid, Invalid>
+    ensures same { IfOk result (λ valid. valid ≡ graph) }
+    ensures valid { IfOk result (λ valid. IsValid valid) }
+    ensures places { IfOk result (λ valid. KeepsPlaces valid) }
+    ensures ends { IfOk result (λ valid. RunsEndWell valid) }
+    ensures clean { IfOk result (λ valid. HasCleanRuns valid) }
+    ensures err { IfErr result (λ invalid. IsRefused graph invalid) }
+{
+    valid_graphs_keep_places();
+    valid_graphs_end_well();
+    runs_are_clean();
+    match first_broken(alloc, &graph) {
+        Ok(None) => Ok(Valid { graph }),
+        Ok(Some(broken)) => Err(Invalid::Rule {
+            rule: broken.rule,
+            node: broken.node,
+            graph,
+        }),
+        Err(AllocError) => Err(Invalid::Memory { graph }),
     }
 }

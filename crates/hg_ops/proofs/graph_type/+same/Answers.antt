@@ -1,0 +1,12 @@
+use Rattle.std.proofs.Common.{rules}
+use Rattle.hg_ops.specs.TypeView.{type_view}
+use Rattle.hg_ops.proofs.Same.{sum_decides, items_alike}
+use Rattle.hg_ops.proofs.graph_type.+same.Goals as goal
+
+pub GraphType::is_same-returns-in-Sum-Sum : goal.GraphType::is_same-returns-in-Sum-Sum
+GraphType::is_same-returns-in-Sum-Sum t c =
+    search (rules, sum_decides c.is_same.result c.in-Sum-Sum.rows c.in-Sum-Sum.others c.is_same.ensures)
+
+pub Row::is_same-returns-then-not-is_same : goal.Row::is_same-returns-then-not-is_same
+Row::is_same-returns-then-not-is_same t c =
+    search (rules, items_alike type_view c.self.inside.types.items c.other.inside.types.items c.loop-k.k c.index.result.now c.index-in-loop-k.result.now)

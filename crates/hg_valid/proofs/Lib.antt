@@ -6,3 +6,6 @@ pub mod Targets
 pub mod FirstChildren
 pub mod Named
 pub mod Searches
+pub mod Edges
+pub mod EffectNodes
+pub mod RegionCounts

@@ -11,3 +11,6 @@ pub mod Signatures
 pub mod Tables
 pub mod Walks
 pub mod Chains
+pub mod Successors
+pub mod Effects
+pub mod Regions

@@ -10,7 +10,8 @@ use std::alloc::{AllocError, Global};
 
 /// A mark for each node: whether it is an effect node.
 pub(crate) fn effects_of(alloc: Global, graph: &Graph) -> Result<Vec<bool>, AllocError>
-    requires { (n : ℕ) → 0 < n → n < length graph.now.nodes → parent_at graph.now n < n }
+    requires root { parent_at graph.now 0 ≡ 0 }
+    requires others { (n : ℕ) → 0 < n → n < length graph.now.nodes → parent_at graph.now n < n }
     ensures { IfOk result (λ marks. AreEffects graph.now marks.items) }
 {
     let mut marks = own_effects(alloc, graph)?;

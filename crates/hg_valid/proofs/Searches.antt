@@ -62,6 +62,7 @@ left_kept : (lists : List (List ℕ)) (marks : List Bool) (steps steps' counts c
 left_kept lists marks steps steps' counts counts' n L z led stay same more =
     let e : get_or counts' n 0 ≡ get_or counts n 0 = same n z in
     record {
+      own = let h = L.own in omega arith;
       falls = λ b l. let f : get_or counts' b 0 ≡ get_or counts b 0 = same b (led b l) in let h = L.falls b l in omega arith;
       held = λ p. let q : 0 < get_or counts n 0 = omega arith in
           let w = L.held q in
@@ -238,6 +239,7 @@ left_now : (lists : List (List ℕ)) (marks : List Bool) (steps' counts' : List 
     → get_or counts' a 0 ≡ mark marks a + best → get_or steps' a 0 ≡ 0 → suc few ≤ left_count steps' → IsLeft lists marks steps' counts' a
 left_now lists marks steps' counts' a best few led one is z more =
     record {
+      own = omega arith;
       falls = λ b l. let h = (led b l).0 in omega arith;
       held = λ p. elim (cases_Bool (is_marked marks a)) [
         | inl m ↦ (a, record { marked = m; count_is = refl }, inl refl, z)
@@ -610,6 +612,7 @@ all_counted lists marks steps path counts S done = record {
   each = λ n l.
       let L : IsLeft lists marks steps counts n = S.left n l (done n l) in
       record {
+        own = L.own;
         falls = L.falls;
         held = λ p. let w = L.held p in (w.0, w.1, w.2);
         next = λ m k e. let w = L.next m k e in (w.0, w.1, w.2);

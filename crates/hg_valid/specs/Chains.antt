@@ -15,9 +15,10 @@ pub record HasCount (marks : List Bool) (counts : List ℕ) (n count : ℕ) : Ty
   pub marked : is_marked marks n ≡ true
   pub count_is : slice_index counts n ≡ count
 
--- Along each link the count falls by the mark. Where it isn't 0, a marked node of this count is the node or is reached
+-- The count is at least the mark, and along each link it falls by the mark. Where it isn't 0, a marked node of this count is the node or is reached
 -- from it; and one of a count that is one less is reached from a marked node, where that isn't 0.
 pub record IsCounted (lists : List (List ℕ)) (marks : List Bool) (counts : List ℕ) (n : ℕ) : Type 0 where
+  pub own : mark marks n ≤ slice_index counts n
   pub falls : (b : ℕ) → Leads lists n b → mark marks n + slice_index counts b ≤ slice_index counts n
   pub held : 0 < slice_index counts n → (x : ℕ) × HasCount marks counts x (slice_index counts n) × ((n ≡ x) ⊎ Walk lists n x)
   pub next : is_marked marks n ≡ true → (k : ℕ) → slice_index counts n ≡ suc (suc k) → (x : ℕ) × HasCount marks counts x (suc k) × Walk lists n x
@@ -44,6 +45,7 @@ left_count steps = count_by (λ s. s == 0) steps
 
 -- what is known of the count of a node that has been left: as above, of nodes that have been left too
 pub record IsLeft (lists : List (List ℕ)) (marks : List Bool) (steps counts : List ℕ) (n : ℕ) : Type 0 where
+  pub own : mark marks n ≤ slice_index counts n
   pub falls : (b : ℕ) → Leads lists n b → mark marks n + slice_index counts b ≤ slice_index counts n
   pub held : 0 < slice_index counts n → (x : ℕ) × HasCount marks counts x (slice_index counts n) × ((n ≡ x) ⊎ Walk lists n x) × (slice_index steps x ≡ 0)
   pub next : is_marked marks n ≡ true → (k : ℕ) → slice_index counts n ≡ suc (suc k) → (x : ℕ) × HasCount marks counts x (suc k) × Walk lists n x × (slice_index steps x ≡ 0)

@@ -14,3 +14,4 @@ pub mod Chains
 pub mod Successors
 pub mod Effects
 pub mod Regions
+pub mod SameRuns

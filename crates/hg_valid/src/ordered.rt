@@ -1,10 +1,12 @@
 //! Whether a valid graph is ordered.
 
 ghost use Rattle.std.specs.Prelude.{◌≡◌, ℕ, ◌+◌, ◌<◌, ◌≤◌, ◌↔◌, length, slice_index, IsTrue, IfOk, MatchBool};
+ghost use Rattle.std.specs.Bool.{OnTrue};
 ghost use Rattle.hg_ops.specs.Op as op;
-ghost use Rattle.hg_graph.specs.Graph.{op_at};
+ghost use Rattle.hg_graph.specs.Graph.{op_at, children};
 ghost use Rattle.hg_graph.specs.Ordered.{IsOrdered};
-ghost use Rattle.hg_valid.specs.Regions.{AreApart, HaveSame, HasSame, ApartBelow};
+ghost use Rattle.hg_valid.specs.Regions.{AreApart, HaveSame, HasSame, ApartBelow, child_at};
+ghost use Rattle.hg_valid.specs.SameRuns.{RunsAreSame};
 
 use crate::chains::longest_chains;
 use crate::effects::effects_of;
@@ -17,7 +19,8 @@ use std::alloc::{AllocError, Global};
 /// Whether in each region any two effect nodes are joined by a path of value and order links. An effect node has an effect
 /// op, or an effect op somewhere inside. The runs of an ordered graph are the same under any picks.
 pub fn is_ordered(alloc: Global, graph: &Valid) -> Result<bool, AllocError>
-    ensures { IfOk result (λ ordered. IsTrue ordered ↔ IsOrdered graph.now) }
+    ensures ordered { IfOk result (λ ordered. IsTrue ordered ↔ IsOrdered graph.now) }
+    ensures runs { IfOk result (λ ordered. OnTrue ordered (RunsAreSame graph.now)) }
 {
     let graph = graph.graph();
     let marks = effects_of(alloc, graph)?;
@@ -71,10 +74,9 @@ fn counts_differ_in(
     ensures count { length seen.new.items ≡ length seen.old.items }
 {
     for k in 0..graph.child_count(region) {
-        if let Some(child) = graph.child(region, k)
-            && marks[child.0 as usize]
-        {
-            let count = counts[child.0 as usize] as usize;
+        let child = child_of(graph, region, k) as usize;
+        if marks[child] {
+            let count = counts[child] as usize;
             if seen[count] == region.0 + 1 {
                 return false;
             }
@@ -82,4 +84,17 @@ fn counts_differ_in(
         }
     }
     true
+}
+
+// A node's child at place `k`.
+fn child_of(graph: &Graph, node: NodeId, k: u64) -> u64
+    requires node_in { node.0 < length graph.now.nodes }
+    requires child_in { k < length (children graph.now node.0) }
+    ensures is { result ≡ child_at graph.now node.0 k }
+    ensures within { result < length graph.now.nodes }
+{
+    match graph.child(node, k) {
+        Some(child) => child.0,
+        None => unreachable!(),
+    }
 }

@@ -9,3 +9,4 @@ pub mod Searches
 pub mod Edges
 pub mod EffectNodes
 pub mod RegionCounts
+pub mod Reached

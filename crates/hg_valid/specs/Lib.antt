@@ -15,3 +15,4 @@ pub mod Successors
 pub mod Effects
 pub mod Regions
 pub mod SameRuns
+pub mod Reach

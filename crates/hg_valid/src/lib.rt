@@ -14,6 +14,7 @@ mod op_tests;
 pub mod ordered;
 mod places;
 mod port_links;
+mod reach;
 mod regions;
 mod rows;
 mod rule;

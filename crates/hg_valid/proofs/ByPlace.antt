@@ -1,5 +1,6 @@
 -- Items of lists by their places.
-use Rattle.std.proofs.Common.{◌≡◌, ◌≢◌, ◌⊎◌, inl, inr, ℕ, zero, suc, ◌+◌, ◌<◌, ◌≤◌, List, [], ◌∷◌, ◌++◌, length, take, Option, Some, None, slice_get, refl, sym, ap, arith, ◌∙◌}
+use Rattle.std.proofs.Common.{◌≡◌, ◌≢◌, ◌⊎◌, inl, inr, ℕ, zero, suc, ◌+◌, ◌<◌, ◌≤◌, List, [], ◌∷◌, ◌++◌, length, take, map, slice_index_or, subst, Some, slice_get, refl, sym, ap, arith, ◌∙◌}
+use Rattle.std.proofs.lemmas.Bool.Decides.{eqb_tells}
 use Rattle.hg_graph.specs.Graph.{In}
 
 pub get_before : {A : Type 0} (xs ys : List A) (n : ℕ) → n < length xs → slice_get (xs ++ ys) n ≡ slice_get xs n
@@ -56,3 +57,40 @@ pub two_first : {A : Type 0} (xs : List A) (a b : A) → slice_get xs 0 ≡ Some
 two_first [] a b e f = absurd cc
 two_first (x ∷ []) a b e f = absurd cc
 two_first (x ∷ y ∷ rest) a b e f = (rest, cc)
+
+pub take_plus : {A : Type 0} (xs : List A) (n : ℕ) (x : A) → slice_get xs n ≡ Some x → take (n + 1) xs ≡ take n xs ++ x ∷ []
+take_plus xs n x e = let s : n + 1 ≡ suc n = omega arith in ap (λ k. take k xs) s ∙ take_next xs n x e
+
+pub take_all : {A : Type 0} (xs : List A) (n : ℕ) → length xs ≤ n → take n xs ≡ xs
+take_all [] zero l = refl
+take_all [] (suc n) l = refl
+take_all (x ∷ xs) zero l = absurd (omega arith)
+take_all (x ∷ xs) (suc n) l = ap (λ ys. x ∷ ys) (take_all xs n (omega arith))
+
+-- the item at a place, as an index reads it, and as a look-up finds it
+pub item_at : {A B : Type 0} (f : A → B) (xs : List A) (n : ℕ) (x : A) (y : B) → x ≡ slice_index_or xs n x → n < length xs → slice_get (map f xs) n ≡ Some y → f x ≡ y
+item_at f [] n x y is l e = absurd (omega arith)
+item_at f (z ∷ xs) zero x y is l e = ap f is ∙ some_is (f z) y e
+  where
+    some_is : {C : Type 0} (a b : C) → Some a ≡ Some b → a ≡ b
+    some_is a b e = cc
+item_at f (z ∷ xs) (suc n) x y is l e = item_at f xs n x y is (omega arith) e
+
+pub item_is : {A : Type 0} (xs : List A) (n : ℕ) (x y : A) → x ≡ slice_index_or xs n x → n < length xs → slice_get xs n ≡ Some y → x ≡ y
+item_is [] n x y is l e = absurd (omega arith)
+item_is (z ∷ xs) zero x y is l e = is ∙ some_is z y e
+  where
+    some_is : {C : Type 0} (a b : C) → Some a ≡ Some b → a ≡ b
+    some_is a b e = cc
+item_is (z ∷ xs) (suc n) x y is l e = item_is xs n x y is (omega arith) e
+
+-- what holds of the items before a place and of the item there holds of those before the next place
+pub next_place : {B : Type 0} (P : ℕ → B → Type 0) (ys : List B) (n : ℕ) (y : B) → ((z : B) → slice_get ys n ≡ Some z → y ≡ z) → ((k : ℕ) (z : B) → k < n → slice_get ys k ≡ Some z → P k z) → P n y
+    → (k : ℕ) (z : B) → k < n + 1 → slice_get ys k ≡ Some z → P k z
+next_place P ys n y is before here k z l e = elim (eqb_tells k n) [
+  | inl s ↦ let at : slice_get ys n ≡ Some z = ap (slice_get ys) (sym s.1) ∙ e in subst (λ j. P j z) (sym s.1) (subst (P n) (is z at) here)
+  | inr s ↦ before k z (less s.1) e
+]
+  where
+    less : k ≢ n → k < n
+    less ne = omega arith

@@ -5,6 +5,8 @@ pub mod PortKinds
 pub mod Targets
 pub mod FirstChildren
 pub mod Named
+pub mod Joined
+pub mod Statics
 pub mod Searches
 pub mod Edges
 pub mod EffectNodes

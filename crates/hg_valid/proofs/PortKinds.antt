@@ -1,7 +1,7 @@
 -- The kinds of ports.
-use Rattle.std.proofs.Common.{◌≡◌, ◌⊎◌, inl, inr, ℕ, zero, suc, ◌+◌, ◌-◌, ◌<◌, ◌≤◌, Bool, true, false, List, [], ◌∷◌, ◌++◌, length, map, Option, Some, None, slice_get, refl, sym, ap, subst, arith, ◌∙◌}
+use Rattle.std.proofs.Common.{◌≡◌, ℕ, zero, suc, ◌-◌, ◌<◌, ◌≤◌, true, List, [], ◌∷◌, ◌++◌, length, map, Some, None, slice_get, refl, sym, ap, subst, arith, ◌∙◌}
 use Rattle.hg_ops.specs.GraphType.{GraphType}
-use Rattle.hg_ops.specs.Op.{Op, Types, Module, FuncDefn, Const, Input, Output, Dfg, Cfg, DataflowBlock, ExitBlock, Conditional, Case, TailLoop, Tag, Call, LoadConstant, Ext, PortKind, ValuePort, ControlPort, FunctionPort, ConstantPort, ins_of, outs_of, other_inputs, other_outputs, input_ports, output_ports}
+use Rattle.hg_ops.specs.Op.{Op, Types, FuncDefn, Const, DataflowBlock, ExitBlock, Call, LoadConstant, PortKind, ValuePort, ControlPort, ins_of, outs_of, other_inputs, other_outputs, input_ports}
 use Rattle.hg_graph.specs.Graph.{Graph, Port, op_at}
 use Rattle.hg_graph.specs.Valid.{JoinsPorts, is_local}
 use Rattle.hg_valid.specs.OtherKinds.{SameKind}
@@ -105,3 +105,22 @@ local_value op p l = let t = there (ins_of op) p l in ap is_local (value_at (ins
 
 pub local_behind : (op : Op) (p : ℕ) → length (ins_of op) ≤ p → is_local (slice_get (input_ports op) p) ≡ is_local (slice_get (other_inputs op) (p - length (ins_of op)))
 local_behind op p l = ap is_local (behind (ins_of op) (other_inputs op) p l)
+
+-- a block has an output for each row
+pub control_at : (rows : List Types) (p : ℕ) → p < length rows → slice_get (map (λ row. ControlPort) rows) p ≡ Some ControlPort
+control_at [] p l = absurd (omega arith)
+control_at (row ∷ rows) zero l = refl
+control_at (row ∷ rows) (suc p) l = control_at rows p (omega arith)
+
+pub control_past : (rows : List Types) (p : ℕ) → length rows ≤ p → slice_get (map (λ row. ControlPort) rows) p ≡ None
+control_past [] p l = refl
+control_past (row ∷ rows) zero l = absurd (omega arith)
+control_past (row ∷ rows) (suc p) l = control_past rows p (omega arith)
+
+-- the kinds of equal ports of equal ops
+pub same_kinds : (a b c d : Op) (p q r s : ℕ) → a ≡ b → c ≡ d → p ≡ q → r ≡ s → SameKind (slice_get (other_outputs a) p) (slice_get (other_inputs c) r) → SameKind (slice_get (other_outputs b) q) (slice_get (other_inputs d) s)
+same_kinds a b c d p q r s e f g h K =
+    subst (λ x. SameKind (slice_get (other_outputs x) q) (slice_get (other_inputs d) s)) e
+    (subst (λ x. SameKind (slice_get (other_outputs a) q) (slice_get (other_inputs x) s)) f
+    (subst (λ x. SameKind (slice_get (other_outputs a) x) (slice_get (other_inputs c) s)) g
+    (subst (λ x. SameKind (slice_get (other_outputs a) p) (slice_get (other_inputs c) x)) h K)))

@@ -1,5 +1,5 @@
 -- How many links a port has, and the only one.
-use Rattle.std.proofs.Common.{inl, inr, subst, ◌≡◌, ◌≢◌, ◌<◌, ◌+◌, ◌++◌, ◌∷◌, ◌∙◌, [], ℕ, zero, suc, Bool, true, false, cond, List, Option, Some, None, length, slice_get, refl, sym, ap, arith}
+use Rattle.std.proofs.Common.{inl, inr, subst, ◌≡◌, ◌≢◌, ◌<◌, ◌+◌, ◌++◌, ◌∷◌, ◌∙◌, [], ℕ, suc, Bool, true, false, cond, List, Option, Some, None, length, slice_get, refl, sym, ap, arith}
 use Rattle.std.specs.Option.{option_and_then}
 use Rattle.std.proofs.lemmas.List.{length-append, append_assoc}
 use Rattle.hg_graph.specs.Graph.{Graph, Link, Ports, Order, Port, In, IsGraph, LinkIsWithin, is_port, feeder, taker, links_into, links_from}

@@ -1,13 +1,13 @@
 -- The least target of a link that breaks a rule.
-use Rattle.std.proofs.Common.{◌≡◌, ◌⊎◌, inl, inr, ℕ, suc, ◌+◌, ◌<◌, ◌≤◌, Bool, true, false, cond, nat_lt, List, [], ◌∷◌, ◌++◌, length, Option, Some, None, refl, sym, ap, subst, arith, ◌∙◌}
+use Rattle.std.proofs.Common.{◌≡◌, inl, inr, ℕ, ◌<◌, true, cond, List, [], ◌∷◌, ◌++◌, length, Option, Some, None, refl, sym, ap, subst, arith, ◌∙◌}
 use Rattle.std.proofs.lemmas.Bool.{cases_lt, lt-ltb, le-ltb}
-use Rattle.hg_graph.specs.Graph.{Graph, Link, Ports, Order, Port, In, IsGraph, LinkIsWithin, op_at, parent_at}
-use Rattle.hg_graph.specs.Valid.{Keeps, LinksJoin, LinksStayInside, is_local, JoinsPorts, JoinsNodes}
+use Rattle.hg_graph.specs.Graph.{Graph, Link, Ports, Order, In, IsGraph, LinkIsWithin, op_at, parent_at}
+use Rattle.hg_graph.specs.Valid.{Keeps, is_local}
 use Rattle.hg_ops.specs.Op.{input_ports}
 use Rattle.std.specs.Prelude.{slice_get}
-use Rattle.hg_valid.specs.Broken.{AllKeep, IsFirstToBreak, FirstToBreak}
+use Rattle.hg_valid.specs.Broken.{FirstToBreak}
 use Rattle.hg_valid.specs.LinkRules.{LinkKeeps, IsLeastTarget, LeastTarget, lesser}
-use Rattle.hg_valid.specs.Parts.{target, LinkJoins, LinkStays}
+use Rattle.hg_valid.specs.Parts.{target}
 use Rattle.hg_valid.specs.RuleView.{link_rule_view}
 use Rattle.hg_valid.specs.declared.rule.LinkRule.{LinkRule}
 use Rattle.hg_valid.specs.declared.rule.LinkRule.TheVariants.{Joins, SameParent}
@@ -62,11 +62,11 @@ module _ (g : Graph) where
     }
 
     this_one : (LinkKeeps g rule link → ⊥) → ((other : Link) → In other links → target other < target link → LinkKeeps g rule other) → IsLeastTarget g rule (links ++ link ∷ []) (target link)
-    this_one no earlier = record {
+    this_one never earlier = record {
       link = link;
       is_among = In-last links link;
       leads_to = refl;
-      broken = no;
+      broken = never;
       earlier_nodes = λ other i l. elim (In-append links (link ∷ []) other i) [
         | inl j ↦ earlier other j l
         | inr j ↦ elim j [ inl e ↦ absurd (less other e l) | inr z ↦ absurd z ]
@@ -92,8 +92,8 @@ module _ (g : Graph) where
         less other e l = let t = ap target e in absurd (omega arith)
 
     pub least_more : (found : Option ℕ) → LeastTarget g rule links found → (LinkKeeps g rule link → ⊥) → LeastTarget g rule (links ++ link ∷ []) (Some (lesser found (target link)))
-    least_more None L no = this_one no (λ other i l. L other i)
-    least_more (Some n) L no = elim (cases_lt n (target link)) [
+    least_more None L never = this_one never (λ other i l. L other i)
+    least_more (Some n) L never = elim (cases_lt n (target link)) [
       | inl s ↦ subst (λ t. IsLeastTarget g rule (links ++ link ∷ []) (cond t n (target link))) (sym (lt-ltb n (target link) s)) (still n s L)
-      | inr s ↦ subst (λ t. IsLeastTarget g rule (links ++ link ∷ []) (cond t n (target link))) (sym (le-ltb n (target link) s)) (this_one no (λ other i l. L.earlier_nodes other i (omega arith)))
+      | inr s ↦ subst (λ t. IsLeastTarget g rule (links ++ link ∷ []) (cond t n (target link))) (sym (le-ltb n (target link) s)) (this_one never (λ other i l. L.earlier_nodes other i (omega arith)))
     ]

@@ -1,10 +1,10 @@
 -- The way up from a node.
-use Rattle.std.proofs.Common.{◌≡◌, ◌⊎◌, inl, inr, ℕ, suc, ◌+◌, ◌<◌, ◌≤◌, List, [], ◌∷◌, ◌++◌, length, Some, slice_get, refl, sym, ap, subst, arith, ◌∙◌}
+use Rattle.std.proofs.Common.{◌≡◌, ◌⊎◌, inl, inr, ℕ, suc, ◌<◌, ◌≤◌, List, [], ◌∷◌, ◌++◌, length, sym, subst, arith, ◌∙◌}
 use Rattle.std.proofs.lemmas.Bool.{cases_lt}
 use Rattle.hg_graph.specs.Graph.{Graph, IsGraph, parent_at}
-use Rattle.hg_graph.specs.Valid.{IsAncestor, of_child, of_further, Places, HasPlace}
+use Rattle.hg_graph.specs.Valid.{IsAncestor, of_child, of_further, Places}
 use Rattle.hg_valid.specs.Broken.{AllKeep}
-use Rattle.hg_valid.specs.Ancestors.{LeadUp, AreJumps}
+use Rattle.hg_valid.specs.Ancestors.{AreJumps}
 use Rattle.hg_valid.specs.declared.ancestors.Jump.{Jump}
 use Rattle.hg_valid.proofs.ByPlace.{get_or_last}
 

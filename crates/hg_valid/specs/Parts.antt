@@ -1,8 +1,13 @@
 -- Parts of the rules of valid graphs.
 use Rattle.std.specs.Prelude.{◌≡◌, ℕ, ◌<◌, ◌≤◌, true, false, List, ◌++◌, length, slice_get, Option, Some, None}
-use Rattle.hg_ops.specs.Op.{Op, Types, FuncDefn, DataflowBlock, ins_of, input_ports}
+use Rattle.hg_ops.specs.Op.{Op, Types, FuncDefn, Input, Output, DataflowBlock, ExitBlock, ins_of, input_ports, inner_ins, inner_outs}
 use Rattle.hg_graph.specs.Graph.{Graph, Port, Link, Ports, Order, op_at, parent_at, children, feeder, taker, links_into, links_from}
 use Rattle.hg_graph.specs.Valid.{JoinsPorts, JoinsNodes, is_boundary, is_exit, is_block, is_local, block_ins}
+
+-- the ops are the `Input` and the `Output` of a region under the first op
+pub record IsPairOf (container first second : Op) : Type 0 where
+  pub input : first ≡ Input (inner_ins container)
+  pub output : second ≡ Output (inner_outs container)
 
 -- no child from place 2 on is an `Input` or an `Output`
 abbrev pub NoOtherBoundary : Graph → ℕ → Type 0
@@ -15,6 +20,11 @@ NoOtherExit g n = (k m : ℕ) → 2 ≤ k → slice_get (children g n) k ≡ Som
 -- the op is a `DataflowBlock` with these arguments
 abbrev pub IsEntryOf : Op → Types → Type 0
 IsEntryOf op ins = (rows : List Types) × (others : Types) × (op ≡ DataflowBlock ins rows others)
+
+-- the ops are a block with these arguments and an exit with these types
+pub record AreFirstBlocks (first second : Op) (ins outs : Types) : Type 0 where
+  pub entry : IsEntryOf first ins
+  pub exit : second ≡ ExitBlock outs
 
 -- the op is a block, or an exit, that takes the types of a row and then those of another
 pub record BlockFits (op : Op) (row others : Types) : Type 0 where

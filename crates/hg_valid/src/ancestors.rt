@@ -1,8 +1,8 @@
 //! Which nodes contain a node.
 
-ghost use Rattle.std.specs.Prelude.{◌≡◌, ◌<◌, ◌↔◌, IsTrue, IfOk, length};
+ghost use Rattle.std.specs.Prelude.{◌≡◌, ◌<◌, ◌↔◌, IsTrue, IfOk, length, slice_get};
 ghost use Rattle.hg_graph.specs.Valid.{IsAncestor, Places};
-ghost use Rattle.hg_valid.specs.Ancestors.{LeadUp, AreJumps};
+ghost use Rattle.hg_valid.specs.Ancestors.{LeadUp, AreJumps, IsAtOrAbove};
 ghost use Rattle.hg_valid.specs.Broken.{AllKeep};
 
 use hg_graph::{Graph, NodeId};
@@ -17,6 +17,13 @@ pub(crate) struct Jump {
     pub(crate) length: u64,
 }
 
+// The step up from a node, where it has been made.
+fn jump_at(jumps: &[Jump], node: NodeId) -> Option<Jump>
+    ensures { result ≡ slice_get jumps.now node.0 }
+{
+    jumps.get(node.0 as usize).copied()
+}
+
 // A step up from a node: as far as two steps from its parent where these are of one length, else to its parent. By such
 // steps the way up to any ancestor is short, however deep the node stands.
 fn jump_of(graph: &Graph, jumps: &[Jump], node: NodeId) -> Jump
@@ -25,8 +32,8 @@ fn jump_of(graph: &Graph, jumps: &[Jump], node: NodeId) -> Jump
     ensures { IsAncestor graph.now result.to.0 node.0 }
 {
     let parent = graph.parent(node);
-    if let Some(near) = jumps.get(parent.0 as usize)
-        && let Some(far) = jumps.get(near.to.0 as usize)
+    if let Some(near) = jump_at(jumps, parent)
+        && let Some(far) = jump_at(jumps, near.to)
         && near.length == far.length
     {
         return Jump {
@@ -52,6 +59,23 @@ pub(crate) fn jumps_of(alloc: Global, graph: &Graph) -> Result<Vec<Jump>, AllocE
     Ok(jumps)
 }
 
+// A step up from a node to an ancestor that isn't past the one that is looked for.
+fn step_up(graph: &Graph, jumps: &[Jump], ancestor: NodeId, node: NodeId) -> NodeId
+    requires node_in { node.0 < length graph.now.nodes }
+    requires jumps { AreJumps graph.now (length graph.now.nodes) jumps.now }
+    requires places { AllKeep graph.now Places }
+    requires below { ancestor.0 < node.0 }
+    ensures up { IsAncestor graph.now result.0 node.0 }
+    ensures less { result.0 < node.0 }
+    ensures further { IsAncestor graph.now ancestor.0 node.0 → IsAtOrAbove graph.now ancestor.0 result.0 }
+{
+    let _count = graph.node_count();
+    match jump_at(jumps, node) {
+        Some(jump) if jump.to.0 >= ancestor.0 => jump.to,
+        _ => graph.parent(node),
+    }
+}
+
 /// Whether a node stands, at whatever depth, in another one; the root stands in itself. The number of steps grows as the
 /// logarithm of the depth.
 pub(crate) fn is_ancestor(graph: &Graph, jumps: &[Jump], ancestor: NodeId, node: NodeId) -> bool
@@ -63,12 +87,7 @@ pub(crate) fn is_ancestor(graph: &Graph, jumps: &[Jump], ancestor: NodeId, node:
     let _count = graph.node_count();
     let mut at = graph.parent(node);
     while at.0 > ancestor.0 {
-        let far = jumps[at.0 as usize].to;
-        at = if far.0 >= ancestor.0 {
-            far
-        } else {
-            graph.parent(at)
-        };
+        at = step_up(graph, jumps, ancestor, at);
     }
     at.0 == ancestor.0
 }

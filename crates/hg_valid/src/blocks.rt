@@ -12,7 +12,7 @@ ghost use Rattle.hg_valid.specs.Tables.{AreTables};
 
 use crate::ancestors::is_ancestor;
 use crate::port_links::{only_source, only_target};
-use crate::rows::{is_joined, same_row};
+use crate::rows::is_joined;
 use crate::tables::{Tables, ins_at};
 use hg_graph::{Graph, NodeId, Port};
 use hg_ops::{OpKind, Row, Rows};
@@ -71,7 +71,6 @@ pub(crate) fn keeps_successors(graph: &Graph, node: NodeId) -> bool
 }
 
 // The source of the only link into a node's static input.
-#[tactic(auto, unfolding(hg_graph::specs::Graph::static_input))]
 fn static_source(graph: &Graph, tables: &Tables, node: NodeId) -> Option<Port>
     requires node_in { node.0 < length graph.now.nodes }
     requires port_in { HasStaticInput (op_at graph.now node.0) }
@@ -123,7 +122,7 @@ fn is_function_of(op: &OpKind, ins: &Row, outs: &Row) -> bool
             ins: own,
             outs: given,
             ..
-        } => same_row(own, ins) && same_row(given, outs),
+        } => own.is_same(ins) && given.is_same(outs),
         _ => false,
     }
 }
@@ -134,6 +133,7 @@ fn has_callee(graph: &Graph, tables: &Tables, node: NodeId, ins: &Row, outs: &Ro
     requires tables { AreTables graph.now tables.now }
     ensures { IsTrue result ↔ spec.HasCallee graph.now node.0 ins.now outs.now }
 {
+    let _count = graph.node_count();
     let to = Port {
         node,
         index: ins_at(graph, tables, node).len(),

@@ -26,3 +26,6 @@ pub mod valid;
 
 pub use ordered::is_ordered;
 pub use valid::{Invalid, Valid, validate};
+
+#[cfg(test)]
+mod tests;

@@ -1,6 +1,6 @@
 //! The rules that are tested link by link.
 
-ghost use Rattle.std.specs.Prelude.{◌≡◌, ◌<◌, ◌↔◌, IsTrue, [], ◌∷◌, map, length, slice_get};
+ghost use Rattle.std.specs.Prelude.{◌≡◌, ◌<◌, ◌+◌, ◌↔◌, IsTrue, take, [], ◌∷◌, map, length, slice_get};
 ghost use Rattle.std.specs.Option.{option_map};
 ghost use Rattle.hg_graph.specs.Graph.{op_at, LinkIsWithin};
 ghost use Rattle.hg_graph.specs.Valid as spec;
@@ -8,14 +8,13 @@ ghost use Rattle.hg_graph.specs.View.{port_view, link_view, number_of};
 ghost use Rattle.hg_ops.specs.Op as kind;
 ghost use Rattle.hg_ops.specs.OpView.{op_view};
 ghost use Rattle.hg_valid.specs.Broken.{FirstToBreak};
-ghost use Rattle.hg_valid.specs.LinkRules.{LinkKeeps, lesser};
+ghost use Rattle.hg_valid.specs.LinkRules.{LinkKeeps, LeastTarget, lesser};
 ghost use Rattle.hg_valid.specs.OtherKinds.{other_view, SameKind};
 ghost use Rattle.hg_valid.specs.Parts.{target, LinkJoins, LinkStays};
 ghost use Rattle.hg_valid.specs.RuleView.{link_rule_view};
 ghost use Rattle.hg_valid.specs.Tables.{AreTables};
 
 use crate::op_tests::{is_input, is_operation, is_output};
-use crate::rows::same_type;
 use crate::rule::LinkRule;
 use crate::tables::{Tables, ins_at, outs_at};
 use hg_graph::{Graph, Link, NodeId, Port};
@@ -94,7 +93,7 @@ fn joins_ports(graph: &Graph, tables: &Tables, from: Port, to: Port) -> bool
     let outs = outs_at(graph, tables, from.node);
     let ins = ins_at(graph, tables, to.node);
     match (outs.get(from.index), ins.get(to.index)) {
-        (Some(given), Some(taken)) => same_type(given, taken),
+        (Some(given), Some(taken)) => given.is_same(taken),
         (None, None) => same_other_kind(
             graph.op(from.node),
             from.index - outs.len(),
@@ -128,6 +127,13 @@ fn joins(graph: &Graph, tables: &Tables, link: Link) -> bool
     }
 }
 
+// Whether it is the way on from a block.
+fn is_control(carried: Option<OtherKind>) -> bool
+    ensures { result ≡ spec.is_local (option_map other_view carried) }
+{
+    matches!(carried, Some(OtherKind::Control))
+}
+
 // Whether an input port carries a value or the way on from a block.
 fn is_local(graph: &Graph, tables: &Tables, to: Port) -> bool
     requires to_in { to.node.0 < length graph.now.nodes }
@@ -135,8 +141,7 @@ fn is_local(graph: &Graph, tables: &Tables, to: Port) -> bool
     ensures { result ≡ spec.is_local (slice_get (kind.input_ports (op_at graph.now to.node.0)) to.index) }
 {
     let ins = ins_at(graph, tables, to.node);
-    to.index < ins.len()
-        || other_input(graph.op(to.node), to.index - ins.len()) == Some(OtherKind::Control)
+    to.index < ins.len() || is_control(other_input(graph.op(to.node), to.index - ins.len()))
 }
 
 // Whether the link stays under one parent, where it is of a kind that has to.
@@ -179,6 +184,30 @@ fn lesser(found: Option<NodeId>, link: Link) -> NodeId
     }
 }
 
+// The least node to which one of the first links leads that breaks the rule, with one link more.
+fn with_link(
+    graph: &Graph,
+    tables: &Tables,
+    rule: LinkRule,
+    number: u64,
+    found: Option<NodeId>,
+) -> Option<NodeId>
+    requires tables { AreTables graph.now tables.now }
+    requires link_in { number < length graph.now.links }
+    requires found { LeastTarget graph.now rule (take number graph.now.links) (option_map number_of found) }
+    ensures { LeastTarget graph.now rule (take (number + 1) graph.now.links) (option_map number_of result) }
+{
+    let _count = graph.node_count();
+    let Some(link) = graph.link_at(number) else {
+        return found;
+    };
+    if link_keeps(graph, tables, rule, link) {
+        found
+    } else {
+        Some(lesser(found, link))
+    }
+}
+
 /// The least node to which a link leads that breaks the rule; `None` exactly where every link keeps it.
 pub(crate) fn first_target(graph: &Graph, tables: &Tables, rule: LinkRule) -> Option<NodeId>
     requires { AreTables graph.now tables.now }
@@ -187,11 +216,7 @@ pub(crate) fn first_target(graph: &Graph, tables: &Tables, rule: LinkRule) -> Op
     let _count = graph.node_count();
     let mut found = None;
     for number in 0..graph.link_count() {
-        if let Some(link) = graph.link_at(number)
-            && !link_keeps(graph, tables, rule, link)
-        {
-            found = Some(lesser(found, link));
-        }
+        found = with_link(graph, tables, rule, number, found);
     }
     found
 }

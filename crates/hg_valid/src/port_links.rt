@@ -1,18 +1,20 @@
 //! The rules of how many links a port has.
 
-ghost use Rattle.std.specs.Prelude.{◌≡◌, ◌≢◌, ◌<◌, ◌↔◌, ◌∷◌, [], IsTrue, IfSome, IfNone, length};
+ghost use Rattle.std.specs.Prelude.{◌≡◌, ◌≢◌, ◌<◌, ◌↔◌, ◌∷◌, [], IsTrue, true, IfSome, IfNone, length};
 ghost use Rattle.std.specs.Option.{option_map};
 ghost use Rattle.hg_graph.specs.Graph.{op_at, links_into, links_from};
 ghost use Rattle.hg_graph.specs.Sources.{source_of};
 ghost use Rattle.hg_graph.specs.Valid.{InputsAreFed, LinearOutputsAreTaken};
 ghost use Rattle.hg_graph.specs.View.{port_view, link_view};
+ghost use Rattle.hg_ops.specs.GraphType.{is_linear as linear};
+ghost use Rattle.hg_ops.specs.TypeView.{type_view};
 ghost use Rattle.hg_ops.specs.Op.{input_ports, output_ports};
 ghost use Rattle.hg_valid.specs.Parts.{target_of, IsOnlySource, IsOnlyTarget};
 ghost use Rattle.hg_valid.specs.Tables.{AreTables};
 
 use crate::tables::{Tables, ins_at, outs_at};
 use hg_graph::{Graph, Link, NodeId, Port};
-use hg_ops::is_linear;
+use hg_ops::{GraphType, is_linear};
 
 // Whether exactly one link leads into an input port.
 fn is_fed_once(graph: &Graph, to: Port) -> bool
@@ -46,6 +48,15 @@ pub(crate) fn inputs_are_fed(graph: &Graph, tables: &Tables, node: NodeId) -> bo
     true
 }
 
+// Whether exactly one link leads out of an output port, where values of its type have to be used.
+fn is_taken(graph: &Graph, from: Port, ty: &GraphType) -> bool
+    requires node_in { from.node.0 < length graph.now.nodes }
+    requires port_in { from.index < length (output_ports (op_at graph.now from.node.0)) }
+    ensures { IsTrue result ↔ (linear (type_view ty.now) ≡ true → links_from graph.now.links (port_view from) ≡ 1) }
+{
+    !is_linear(ty) || is_taken_once(graph, from)
+}
+
 /// Whether each linear value output of a node has exactly one link.
 pub(crate) fn linear_outputs_are_taken(graph: &Graph, tables: &Tables, node: NodeId) -> bool
     requires node_in { node.0 < length graph.now.nodes }
@@ -58,7 +69,7 @@ pub(crate) fn linear_outputs_are_taken(graph: &Graph, tables: &Tables, node: Nod
             node,
             index: index as u64,
         };
-        if is_linear(&types[index]) && !is_taken_once(graph, from) {
+        if !is_taken(graph, from, &types[index]) {
             return false;
         }
     }

@@ -1,15 +1,16 @@
 //! The rules of the first children of a node.
 
 ghost use Rattle.std.specs.Prelude.{◌≡◌, ◌↔◌, ◌<◌, ◌++◌, length, IsTrue, ℕ, Some, slice_get, false};
+ghost use Rattle.std.specs.Option.{option_map_or};
 ghost use Rattle.hg_graph.specs.Graph.{op_at, children};
 ghost use Rattle.hg_graph.specs.Valid as spec;
 ghost use Rattle.hg_ops.specs.Op as kind;
 ghost use Rattle.hg_ops.specs.OpView.{op_view};
-ghost use Rattle.hg_valid.specs.Parts.{NoOtherBoundary, NoOtherExit, IsEntryOf};
+ghost use Rattle.hg_valid.specs.Parts.{NoOtherBoundary, NoOtherExit, IsPairOf, IsEntryOf, AreFirstBlocks};
 
 use crate::op_tests::{is_boundary, is_dataflow_container, is_exit};
 use crate::places::child;
-use crate::rows::{has_inner_ins, has_inner_outs, is_joined, same_row};
+use crate::rows::{has_inner_ins, has_inner_outs, is_joined};
 use hg_graph::{Graph, NodeId};
 use hg_ops::{OpKind, Row, Rows};
 
@@ -33,19 +34,46 @@ fn is_output_of(op: &OpKind, container: &OpKind) -> bool
     }
 }
 
+// Whether the ops are the `Input` and the `Output` of a region under the third op.
+fn is_pair_of(first: &OpKind, second: &OpKind, container: &OpKind) -> bool
+    ensures { IsTrue result ↔ IsPairOf (op_view container.now) (op_view first.now) (op_view second.now) }
+{
+    is_input_of(first, container) && is_output_of(second, container)
+}
+
+// Whether there is a child at a place, and it is an `Input` or an `Output`.
+fn child_is_boundary(graph: &Graph, node: NodeId, place: u64) -> bool
+    requires { node.0 < length graph.now.nodes }
+    ensures { result ≡ option_map_or (λ child. spec.is_boundary (op_at graph.now child)) (slice_get (children graph.now node.0) place) false }
+{
+    match child(graph, node, place) {
+        Some(child) => is_boundary(graph.op(child)),
+        None => false,
+    }
+}
+
 // Whether no child from place 2 on is an `Input` or an `Output`.
 fn no_other_boundary(graph: &Graph, node: NodeId) -> bool
     requires { node.0 < length graph.now.nodes }
     ensures { IsTrue result ↔ NoOtherBoundary graph.now node.0 }
 {
     for place in 2..graph.child_count(node) {
-        if let Some(child) = child(graph, node, place)
-            && is_boundary(graph.op(child))
-        {
+        if child_is_boundary(graph, node, place) {
             return false;
         }
     }
     true
+}
+
+// Whether there is a child at a place, and it is an `ExitBlock`.
+fn child_is_exit(graph: &Graph, node: NodeId, place: u64) -> bool
+    requires { node.0 < length graph.now.nodes }
+    ensures { result ≡ option_map_or (λ child. spec.is_exit (op_at graph.now child)) (slice_get (children graph.now node.0) place) false }
+{
+    match child(graph, node, place) {
+        Some(child) => is_exit(graph.op(child)),
+        None => false,
+    }
 }
 
 // Whether no child from place 2 on is an `ExitBlock`.
@@ -54,9 +82,7 @@ fn no_other_exit(graph: &Graph, node: NodeId) -> bool
     ensures { IsTrue result ↔ NoOtherExit graph.now node.0 }
 {
     for place in 2..graph.child_count(node) {
-        if let Some(child) = child(graph, node, place)
-            && is_exit(graph.op(child))
-        {
+        if child_is_exit(graph, node, place) {
             return false;
         }
     }
@@ -71,8 +97,7 @@ pub(crate) fn has_boundary(graph: &Graph, node: NodeId) -> bool
     let container = graph.op(node);
     match (child(graph, node, 0), child(graph, node, 1)) {
         (Some(input), Some(output)) => {
-            is_input_of(graph.op(input), container)
-                && is_output_of(graph.op(output), container)
+            is_pair_of(graph.op(input), graph.op(output), container)
                 && no_other_boundary(graph, node)
         }
         _ => false,
@@ -92,7 +117,7 @@ fn is_entry_of(op: &OpKind, ins: &Row) -> bool
     ensures { IsTrue result ↔ IsEntryOf (op_view op.now) ins.now }
 {
     match op {
-        OpKind::DataflowBlock { ins: own, .. } => same_row(own, ins),
+        OpKind::DataflowBlock { ins: own, .. } => own.is_same(ins),
         _ => false,
     }
 }
@@ -102,9 +127,16 @@ fn is_exit_of(op: &OpKind, outs: &Row) -> bool
     ensures { IsTrue result ↔ (op_view op.now ≡ kind.ExitBlock outs.now) }
 {
     match op {
-        OpKind::ExitBlock { types } => same_row(types, outs),
+        OpKind::ExitBlock { types } => types.is_same(outs),
         _ => false,
     }
+}
+
+// Whether the ops are a block with these arguments and an exit with these types.
+fn are_first_blocks(first: &OpKind, second: &OpKind, ins: &Row, outs: &Row) -> bool
+    ensures { IsTrue result ↔ AreFirstBlocks (op_view first.now) (op_view second.now) ins.now outs.now }
+{
+    is_entry_of(first, ins) && is_exit_of(second, outs)
 }
 
 // Whether the first child is a block with these arguments, the second the exit with these types, and no other one an exit.
@@ -114,8 +146,7 @@ fn has_blocks(graph: &Graph, node: NodeId, ins: &Row, outs: &Row) -> bool
 {
     match (child(graph, node, 0), child(graph, node, 1)) {
         (Some(entry), Some(exit)) => {
-            is_entry_of(graph.op(entry), ins)
-                && is_exit_of(graph.op(exit), outs)
+            are_first_blocks(graph.op(entry), graph.op(exit), ins, outs)
                 && no_other_exit(graph, node)
         }
         _ => false,
@@ -141,7 +172,7 @@ fn is_case_of(op: &OpKind, row: &Row, ins: &Row, outs: &Row) -> bool
         OpKind::Case {
             ins: own,
             outs: given,
-        } => is_joined(own, row, ins) && same_row(given, outs),
+        } => is_joined(own, row, ins) && given.is_same(outs),
         _ => false,
     }
 }

@@ -1,30 +1,12 @@
 //! Whether rows of types are those that a rule asks for.
 
-ghost use Rattle.std.specs.Prelude.{Decides, ◌≡◌, ◌↔◌, ◌++◌, ◌∷◌, [], IsTrue, length, map};
+ghost use Rattle.std.specs.Prelude.{◌≡◌, ◌↔◌, ◌++◌, ◌∷◌, [], IsTrue, length, map};
 ghost use Rattle.hg_ops.specs.GraphType.{sum_type};
 ghost use Rattle.hg_ops.specs.Op as kind;
 ghost use Rattle.hg_ops.specs.OpView.{op_view};
 ghost use Rattle.hg_ops.specs.TypeView.{type_view};
 
 use hg_ops::{GraphType, OpKind, Row, Rows};
-
-pub(crate) fn same_type(one: &GraphType, other: &GraphType) -> bool
-    ensures { Decides result (type_view one.now ≡ type_view other.now) }
-{
-    false
-}
-
-pub(crate) fn same_row(one: &Row, other: &Row) -> bool
-    ensures { Decides result (one.now ≡ other.now) }
-{
-    false
-}
-
-pub(crate) fn same_rows(one: &Rows, other: &Rows) -> bool
-    ensures { Decides result (one.now ≡ other.now) }
-{
-    false
-}
 
 // Whether the types are the same, one by one.
 fn same_types(ones: &[GraphType], others: &[GraphType]) -> bool
@@ -34,7 +16,7 @@ fn same_types(ones: &[GraphType], others: &[GraphType]) -> bool
         return false;
     }
     for k in 0..ones.len() {
-        if !same_type(&ones[k], &others[k]) {
+        if !ones[k].is_same(&others[k]) {
             return false;
         }
     }
@@ -58,7 +40,7 @@ fn is_sum(ty: &GraphType, rows: &Rows) -> bool
     ensures { IsTrue result ↔ (type_view ty.now ≡ sum_type rows.now) }
 {
     match ty {
-        GraphType::Sum(own) => same_rows(own, rows),
+        GraphType::Sum(own) => own.is_same(rows),
         _ => false,
     }
 }
@@ -78,7 +60,7 @@ fn has_two_rows(rows: &Rows, first: &Row, second: &Row) -> bool
     ensures { IsTrue result ↔ (rows.now ≡ first.now ∷ second.now ∷ []) }
 {
     match rows.as_slice() {
-        [one, other] => same_row(one, first) && same_row(other, second),
+        [one, other] => one.is_same(first) && other.is_same(second),
         _ => false,
     }
 }
@@ -110,10 +92,10 @@ pub(crate) fn has_inner_ins(row: &Row, op: &OpKind) -> bool
     ensures { IsTrue result ↔ (row.now ≡ kind.inner_ins (op_view op.now)) }
 {
     match op {
-        OpKind::FuncDefn { ins, .. } => same_row(row, ins),
-        OpKind::Dfg { ins, .. } => same_row(row, ins),
-        OpKind::Case { ins, .. } => same_row(row, ins),
-        OpKind::DataflowBlock { ins, .. } => same_row(row, ins),
+        OpKind::FuncDefn { ins, .. } => row.is_same(ins),
+        OpKind::Dfg { ins, .. } => row.is_same(ins),
+        OpKind::Case { ins, .. } => row.is_same(ins),
+        OpKind::DataflowBlock { ins, .. } => row.is_same(ins),
         OpKind::TailLoop { again, rest, .. } => is_joined(row, again, rest),
         _ => row.len() == 0,
     }
@@ -124,9 +106,9 @@ pub(crate) fn has_inner_outs(row: &Row, op: &OpKind) -> bool
     ensures { IsTrue result ↔ (row.now ≡ kind.inner_outs (op_view op.now)) }
 {
     match op {
-        OpKind::FuncDefn { outs, .. } => same_row(row, outs),
-        OpKind::Dfg { outs, .. } => same_row(row, outs),
-        OpKind::Case { outs, .. } => same_row(row, outs),
+        OpKind::FuncDefn { outs, .. } => row.is_same(outs),
+        OpKind::Dfg { outs, .. } => row.is_same(outs),
+        OpKind::Case { outs, .. } => row.is_same(outs),
         OpKind::DataflowBlock { rows, others, .. } => is_sum_and(row, rows, others),
         OpKind::TailLoop { again, leave, rest } => is_choice_and(row, again, leave, rest),
         _ => row.len() == 0,

@@ -7,3 +7,8 @@ pub mod FirstChildren
 pub mod Named
 pub mod Joined
 pub mod Statics
+pub mod Searches
+pub mod Edges
+pub mod EffectNodes
+pub mod RegionCounts
+pub mod Reached

@@ -1,12 +1,12 @@
 #!/usr/bin/env bash
-# Times how graphs are validated: the proved program `hg_valid_bench` builds the graph of a function whose one qubit
-# passes through as many gates as its first word says, and the graph of a function with as many regions as the second
-# word says, each in the one before it, and validates both. Wants the program built (`rt run` in crates/hg_valid_bench
-# builds it), bash and python3.
+# Times how graphs are validated and tested for order: the proved program `hg_valid_bench` builds the graph of a function
+# whose one qubit passes through as many gates as its first word says, and the graph of a function with as many regions
+# as the second word says, each in the one before it, and tests both. Wants the program built (`rt run` in
+# crates/hg_valid_bench builds it), bash and python3.
 #
 # For each size it prints the best wall time of three in seconds, the microseconds a gate or region, and the peak memory
-# in MiB. Building the graphs is part of it: bench/graph.sh times that alone. Where validating takes the same time a
-# node in a large graph as in a small one, the fourth column stays about the same.
+# in MiB. Building the graphs is part of it: bench/graph.sh times that alone. Where the tests take the same time a node
+# in a large graph as in a small one, the fourth column stays about the same.
 set -eu
 home=$(cd "$(dirname "${BASH_SOURCE[0]}")/.." && pwd)
 program=$home/crates/hg_valid_bench/out/hg_valid_bench

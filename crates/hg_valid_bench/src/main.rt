@@ -1,5 +1,5 @@
 //! The program `hg_valid_bench`: builds a graph of as many gates, or of as many nested regions, as its words say, and
-//! tells whether it is valid. `bench/valid.sh` times it.
+//! tells whether it is valid and ordered. `bench/valid.sh` times it.
 #![tactic(auto)]
 
 ghost use Rattle.std.specs.Prelude.{◌<◌, length, IfOk, OnOk};
@@ -7,7 +7,7 @@ ghost use Rattle.std.specs.Prelude.{◌<◌, length, IfOk, OnOk};
 use gp_base::Name;
 use hg_graph::{Graph, NodeId, Port};
 use hg_ops::{OpKind, Row};
-use hg_valid::{Invalid, validate};
+use hg_valid::{Invalid, is_ordered, validate};
 use std::alloc::{AllocError, Global};
 use std::env;
 use std::rt::Env;
@@ -107,21 +107,33 @@ fn nest(alloc: Global, regions: u64) -> Result<Graph, AllocError> {
     Ok(graph)
 }
 
-// The number of the least broken rule, 0 where the graph is valid, and 16 where memory is short.
-fn broken_rule(alloc: Global, graph: Graph) -> u8 {
+// The number of the least broken rule, 0 where the graph is valid, and 16 where memory is short; and whether a valid
+// graph is ordered.
+fn verdict(alloc: Global, graph: Graph) -> (u8, bool) {
     match validate(alloc, graph) {
-        Ok(_valid) => 0,
-        Err(Invalid::Rule { rule, .. }) => rule,
-        Err(Invalid::Memory { .. }) => 16,
+        Ok(valid) => match is_ordered(alloc, &valid) {
+            Ok(ordered) => (0, ordered),
+            Err(AllocError) => (16, false),
+        },
+        Err(Invalid::Rule { rule, .. }) => (rule, false),
+        Err(Invalid::Memory { .. }) => (16, false),
     }
 }
 
 fn main(rt: HostRuntime) -> anyhow::Result<()> {
     let gates = number_at(&rt, 1).unwrap_or(FEW);
     let graph = chain(rt.alloc(), gates)?;
-    println!(rt; "{} gates: broken rule {}", gates, broken_rule(rt.alloc(), graph))?;
+    let (rule, ordered) = verdict(rt.alloc(), graph);
+    println!(rt;
+        "{} gates: broken rule {}, ordered {}",
+        gates, rule, ordered
+    )?;
     let regions = number_at(&rt, 2).unwrap_or(FEW);
     let graph = nest(rt.alloc(), regions)?;
-    println!(rt; "{} regions: broken rule {}", regions, broken_rule(rt.alloc(), graph))?;
+    let (rule, ordered) = verdict(rt.alloc(), graph);
+    println!(rt;
+        "{} regions: broken rule {}, ordered {}",
+        regions, rule, ordered
+    )?;
     Ok(())
 }

@@ -1,0 +1,14 @@
+pub mod ByPlace
+pub mod PortLinks
+pub mod Up
+pub mod PortKinds
+pub mod Targets
+pub mod FirstChildren
+pub mod Named
+pub mod Joined
+pub mod Statics
+pub mod Searches
+pub mod Edges
+pub mod EffectNodes
+pub mod RegionCounts
+pub mod Reached

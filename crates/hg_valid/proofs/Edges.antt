@@ -105,13 +105,13 @@ link_within g G k l e = G.links l (get_in g.links k l (sym e))
 
 pub edges_start : (g : Graph) (lists : List (List ℕ)) → lists ≡ replicate (length g.nodes) [] → HasEdges g 0 lists
 edges_start g lists e = subst (λ (xs : List (List ℕ)). HasEdges g 0 xs) (sym e) (record {
-    count = length-replicate (length g.nodes) [];
-    edges = λ a b i. elim (cases_lt a (length g.nodes)) [
-      | inl l ↦ absurd (subst (λ (ns : List ℕ). In b ns) (get_or-replicate (length g.nodes) a [] [] l) i)
-      | inr l ↦ absurd (subst (λ (ns : List ℕ). In b ns) (get_or_past (replicate (length g.nodes) []) a [] (let h = length-replicate {A = List ℕ} (length g.nodes) [] in omega arith)) i)
-    ];
-    below = λ j h. absurd (omega arith);
-  })
+  count = length-replicate (length g.nodes) [];
+  edges = λ a b i. elim (cases_lt a (length g.nodes)) [
+    | inl l ↦ absurd (subst (λ (ns : List ℕ). In b ns) (get_or-replicate (length g.nodes) a [] [] l) i)
+    | inr l ↦ absurd (subst (λ (ns : List ℕ). In b ns) (get_or_past (replicate (length g.nodes) []) a [] (let h = length-replicate {A = List ℕ} (length g.nodes) [] in omega arith)) i)
+  ];
+  below = λ j h. absurd (omega arith);
+})
 
 pub edges_end : (g : Graph) (k : ℕ) (lists : List (List ℕ)) → length g.links ≤ k → HasEdges g k lists → AreSuccessors g lists
 edges_end g k lists l H = record {

@@ -40,22 +40,23 @@ reached_one lists start reached nodes R n l w new =
     let kept : (m : ℕ) → is_marked reached m ≡ true → is_marked after m ≡ true = λ m k. elim (cases_eq m n) [ inl e ↦ ap (is_marked after) e ∙ here | inr ne ↦ other m ne ∙ k ] in
     let tallied = sum_by-set one_if reached n true false within in
     let none : one_if (get_or reached n false) ≡ 0 = ap one_if new in
-    let was : count_by (λ b. b) reached ≡ length nodes = R.tally in
-    (record {
-       count = length-set reached n true ∙ R.count;
-       tally = omega arith;
-       walks = λ m k. elim (cases_eq m n) [ inl e ↦ subst (λ (x : ℕ). Walk lists start x) (sym e) w | inr ne ↦ R.walks m (sym (other m ne) ∙ k) ];
-       listed = λ m k. elim (cases_eq m n) [
-         | inl e ↦ (length nodes, omega arith, last ∙ sym e)
-         | inr ne ↦ let r = R.listed m (sym (other m ne) ∙ k) in (r.0, (let h : r.0 < length nodes = r.1 in omega arith), old r.0 r.1 ∙ r.2)
-       ];
-       marked = λ i h. elim (cases_eq i (length nodes)) [
-         | inl e ↦ ap (λ x. is_marked after (get_or more x 0)) e ∙ ap (is_marked after) last ∙ here
-         | inr ne ↦ let h' : i < length nodes = omega arith in ap (is_marked after) (old i h') ∙ kept (get_or nodes i 0) (R.marked i h')
-       ];
-     },
-     record { kept = kept; longer = omega arith; same = old },
-     here)
+    let was : count_by (λ b. b) reached ≡ length nodes = R.tally in (
+      record {
+        count = length-set reached n true ∙ R.count;
+        tally = omega arith;
+        walks = λ m k. elim (cases_eq m n) [ inl e ↦ subst (λ (x : ℕ). Walk lists start x) (sym e) w | inr ne ↦ R.walks m (sym (other m ne) ∙ k) ];
+        listed = λ m k. elim (cases_eq m n) [
+          | inl e ↦ (length nodes, omega arith, last ∙ sym e)
+          | inr ne ↦ let r = R.listed m (sym (other m ne) ∙ k) in (r.0, (let h : r.0 < length nodes = r.1 in omega arith), old r.0 r.1 ∙ r.2)
+        ];
+        marked = λ i h. elim (cases_eq i (length nodes)) [
+          | inl e ↦ ap (λ x. is_marked after (get_or more x 0)) e ∙ ap (is_marked after) last ∙ here
+          | inr ne ↦ let h' : i < length nodes = omega arith in ap (is_marked after) (old i h') ∙ kept (get_or nodes i 0) (R.marked i h')
+        ];
+      },
+      record { kept = kept; longer = omega arith; same = old },
+      here,
+    )
 
 pub reach_starts : (lists : List (List ℕ)) (start : ℕ) (reached : List Bool) (nodes : List ℕ) → reached ≡ replicate (length lists) false → nodes ≡ [] → IsReach lists start reached nodes
 reach_starts lists start reached nodes re ne =
@@ -109,8 +110,10 @@ falls_on lists C marks counts A all a b l (first i w) =
     omega arith
 
 pub none_back : (lists : List (List ℕ)) → IsClosed lists → (marks : List Bool) (counts : List ℕ) → AreCounted lists marks counts → marks ≡ replicate (length lists) true → NoneBack lists
-none_back lists C marks counts A e = record { none = λ n l w.
-    let h = falls_on lists C marks counts A (λ m k. ap (λ xs. is_marked xs m) e ∙ get_or-replicate (length lists) m true false k) n n l w in omega arith }
+none_back lists C marks counts A e = record {
+  none = λ n l w.
+      let h = falls_on lists C marks counts A (λ m k. ap (λ xs. is_marked xs m) e ∙ get_or-replicate (length lists) m true false k) n n l w in omega arith;
+}
 
 pub counted_back : (V : Type 0) (items : V → List ℕ) (lists : List (List ℕ)) → IsClosed lists → (marks : List Bool) (o : Option V) (b : Bool) → b ≡ is_some o → b ≡ true
     → MatchOption o (HasCycle lists) (λ v. AreCounted lists marks (items v)) → marks ≡ replicate (length lists) true → NoneBack lists

@@ -113,22 +113,23 @@ seen_same g c k marks counts seen S l m e =
     }
 
 pub seen_all : (g : Graph) (c k : ℕ) (marks : List Bool) (counts seen : List ℕ) → IsSeen g c k marks counts seen → length (children g c) ≤ k → AreApart g c marks counts
-seen_all g c k marks counts seen S l = record { differ = λ a b i j m n ne e.
-    let p = place_in a (children g c) i in
-    let q = place_in b (children g c) j in
-    let ps : p.0 < length (children g c) = p.1 in
-    let qs : q.0 < length (children g c) = q.1 in
-    let ma : is_marked marks (child_at g c p.0) ≡ true = ap (is_marked marks) p.2 ∙ m in
-    let mb : is_marked marks (child_at g c q.0) ≡ true = ap (is_marked marks) q.2 ∙ n in
-    let same : get_or counts (child_at g c p.0) 0 ≡ get_or counts (child_at g c q.0) 0 = ap (λ x. get_or counts x 0) p.2 ∙ e ∙ ap (λ x. get_or counts x 0) (sym q.2) in
-    elim (cases_lt p.0 q.0) [
-      | inl h ↦ S.differ p.0 q.0 h (omega arith) ma mb same
-      | inr h ↦ elim (cases_eq p.0 q.0) [
-        | inl f ↦ ne (sym p.2 ∙ ap (child_at g c) f ∙ q.2)
-        | inr nf ↦ S.differ q.0 p.0 (omega arith) (omega arith) mb ma (sym same)
-      ]
-    ]
-  }
+seen_all g c k marks counts seen S l = record {
+  differ = λ a b i j m n ne e.
+      let p = place_in a (children g c) i in
+      let q = place_in b (children g c) j in
+      let ps : p.0 < length (children g c) = p.1 in
+      let qs : q.0 < length (children g c) = q.1 in
+      let ma : is_marked marks (child_at g c p.0) ≡ true = ap (is_marked marks) p.2 ∙ m in
+      let mb : is_marked marks (child_at g c q.0) ≡ true = ap (is_marked marks) q.2 ∙ n in
+      let same : get_or counts (child_at g c p.0) 0 ≡ get_or counts (child_at g c q.0) 0 = ap (λ x. get_or counts x 0) p.2 ∙ e ∙ ap (λ x. get_or counts x 0) (sym q.2) in
+      elim (cases_lt p.0 q.0) [
+        | inl h ↦ S.differ p.0 q.0 h (omega arith) ma mb same
+        | inr h ↦ elim (cases_eq p.0 q.0) [
+          | inl f ↦ ne (sym p.2 ∙ ap (child_at g c) f ∙ q.2)
+          | inr nf ↦ S.differ q.0 p.0 (omega arith) (omega arith) mb ma (sym same)
+        ]
+      ];
+}
 
 -- ---- the regions so far
 
@@ -136,10 +137,12 @@ pub below_start : (g : Graph) (marks : List Bool) (counts : List ℕ) → ApartB
 below_start g marks counts = record { each = λ r l. absurd (omega arith) }
 
 pub below_on : (g : Graph) (c : ℕ) (marks : List Bool) (counts : List ℕ) → ApartBelow g c marks counts → (is_dataflow_container (op_at g c) ≡ true → AreApart g c marks counts) → ApartBelow g (c + 1) marks counts
-below_on g c marks counts B h = record { each = λ r l f. elim (cases_eq r c) [
+below_on g c marks counts B h = record {
+  each = λ r l f. elim (cases_eq r c) [
     | inl e ↦ subst (λ (i : ℕ). AreApart g i marks counts) (sym e) (h (subst (λ (i : ℕ). is_dataflow_container (op_at g i) ≡ true) e f))
     | inr ne ↦ B.each r (omega arith) f
-  ] }
+  ];
+}
 
 -- ---- effect nodes along paths
 

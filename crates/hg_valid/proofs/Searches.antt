@@ -151,10 +151,10 @@ search_entered lists marks steps path counts S b isn is comes =
     let old : (i : ℕ) → i < length path → get_or path' i 0 ≡ get_or path i 0 = λ i l. get_or_append_left path (b ∷ []) 0 i l in
     let new : get_or path' (length path) 0 ≡ b = get_or_push path b 0 (length path) refl in
     let not_new : (i : ℕ) → i < length path → get_or path i 0 ≢ b = λ i l e.
-        let h = (S.opened i l).entered in
-        let f : get_or steps (get_or path i 0) 0 ≡ get_or steps b 0 = ap (λ m. get_or steps m 0) e in
-        let g : length (row lists (get_or path i 0)) ≡ length (row lists b) = ap (λ m. length (row lists m)) e in
-        absurd (omega arith) in
+    let h = (S.opened i l).entered in
+    let f : get_or steps (get_or path i 0) 0 ≡ get_or steps b 0 = ap (λ m. get_or steps m 0) e in
+    let g : length (row lists (get_or path i 0)) ≡ length (row lists b) = ap (λ m. length (row lists m)) e in
+    absurd (omega arith) in
     record {
       step_count = length-set steps b y ∙ S.step_count;
       count_count = S.count_count;
@@ -251,6 +251,7 @@ left_now lists marks steps' counts' a best few led one is z more =
   where
     fewer : get_or counts' a 0 ≤ left_count steps'
     fewer = let h : mark marks a ≤ 1 = at_most (is_marked marks a) in elim one [ inl e ↦ omega arith | inr w ↦ let q : best ≤ few = w.3 in omega arith ]
+
     unmarked : is_marked marks a ≡ false → 0 < get_or counts' a 0
         → (x : ℕ) × HasCount marks counts' x (get_or counts' a 0) × ((a ≡ x) ⊎ Walk lists a x) × (get_or steps' x 0 ≡ 0)
     unmarked m p =
@@ -264,6 +265,7 @@ left_now lists marks steps' counts' a best few led one is z more =
               let same : get_or counts' w.0 0 ≡ get_or counts' a 0 = omega arith in
               (r.0, record { marked = r.1.marked; count_is = r.1.count_is ∙ same }, inr (further lists a w.0 r.0 w.1 r.2), r.3)
         ]
+
     onward : is_marked marks a ≡ true → (k : ℕ) → get_or counts' a 0 ≡ suc (suc k)
         → (x : ℕ) × HasCount marks counts' x (suc k) × Walk lists a x × (get_or steps' x 0 ≡ 0)
     onward m k e =
@@ -303,7 +305,7 @@ search_left lists C marks steps before counts a best S is G =
     let is_apart : (i : ℕ) → i < length before → get_or before i 0 ≢ a = λ i l e. S.apart i (length before) l (omega arith) (old i l ∙ e ∙ sym last) in
     let more : left_count steps' ≡ suc (left_count steps) = left_one_more steps a within_steps some in
     let kept : (n : ℕ) → n < length lists → get_or steps n 0 ≡ 0 → IsLeft lists marks steps' counts' n = λ n l z.
-        left_kept lists marks steps steps' counts counts' n (S.left n l z) z (led_left lists marks steps path counts S n (omega arith)) stay same (omega arith) in
+    left_kept lists marks steps steps' counts counts' n (S.left n l z) z (led_left lists marks steps path counts S n (omega arith)) stay same (omega arith) in
     let led : (b : ℕ) → Leads lists a b → get_or steps b 0 ≡ 0 = led_left lists marks steps path counts S a (omega arith) in
     record {
       step_count = length-set steps a 0 ∙ S.step_count;
@@ -338,10 +340,13 @@ search_left lists C marks steps before counts a best S is G =
       left = λ n l z. elim (cases_eq n a) [
         | inr ne ↦ kept n l (sym (other n ne) ∙ z)
         | inl e ↦ subst (λ (m : ℕ). IsLeft lists marks steps' counts' m) (sym e) (left_now lists marks steps' counts' a best (left_count steps)
-            (λ b m. (let r = place_in b (row lists a) m in
-                     let f : get_or counts' b 0 ≡ get_or counts b 0 = same b (led b m) in
-                     let g : get_or counts (get_or (row lists a) r.0 0) 0 ≡ get_or counts b 0 = ap (λ m. get_or counts m 0) r.2 in
-                     let h = G.each r.0 r.1 in omega arith, kept b (C.within a b m) (led b m)))
+            (λ b m. (
+              let r = place_in b (row lists a) m in
+                  let f : get_or counts' b 0 ≡ get_or counts b 0 = same b (led b m) in
+                  let g : get_or counts (get_or (row lists a) r.0 0) 0 ≡ get_or counts b 0 = ap (λ m. get_or counts m 0) r.2 in
+                  let h = G.each r.0 r.1 in omega arith,
+              kept b (C.within a b m) (led b m),
+            ))
             (elim G.one [
               | inl d ↦ inl d
               | inr w ↦
@@ -598,11 +603,12 @@ root_entered lists marks steps steps' path path' counts counts' root S pe l some
     let same : length (row lists root) + 1 ≡ y = omega arith in
     let F : IsSearch lists marks (set steps root y) (path ++ root ∷ []) counts = subst (λ (z : ℕ). IsSearch lists marks (set steps root z) (path ++ root ∷ []) counts) same E in
     let here = get_or-set_same steps root y 0 within_steps in
-    let at : get_or steps' root 0 ≡ get_or (set steps root y) root 0 = ap (λ xs. get_or xs root 0) se in
-    (subst (λ (xs : List ℕ). IsSearch lists marks xs path' counts') (sym se) (subst (λ (xs : List ℕ). IsSearch lists marks (set steps root y) xs counts') (sym pe')
-     (subst (λ (xs : List ℕ). IsSearch lists marks (set steps root y) (path ++ root ∷ []) xs) (sym ce) F)),
-     subst (λ (xs : List ℕ). (n : ℕ) → get_or xs n 0 ≤ get_or steps n 0) (sym se) (falls_at steps root y within_steps (omega arith)),
-     omega arith)
+    let at : get_or steps' root 0 ≡ get_or (set steps root y) root 0 = ap (λ xs. get_or xs root 0) se in (
+      subst (λ (xs : List ℕ). IsSearch lists marks xs path' counts') (sym se) (subst (λ (xs : List ℕ). IsSearch lists marks (set steps root y) xs counts') (sym pe')
+          (subst (λ (xs : List ℕ). IsSearch lists marks (set steps root y) (path ++ root ∷ []) xs) (sym ce) F)),
+      subst (λ (xs : List ℕ). (n : ℕ) → get_or xs n 0 ≤ get_or steps n 0) (sym se) (falls_at steps root y within_steps (omega arith)),
+      omega arith,
+    )
 
 -- all nodes have been left
 pub all_counted : (lists : List (List ℕ)) (marks : List Bool) (steps path counts : List ℕ) → IsSearch lists marks steps path counts → ((n : ℕ) → n < length lists → get_or steps n 0 ≡ 0)

@@ -32,10 +32,7 @@ fn all_marks(alloc: Global, count: usize) -> Result<Vec<bool>, AllocError>
 }
 
 // The same, where there may well be one.
-fn least_back(
-    alloc: Global,
-    successors: &[Sequence<u64>],
-) -> Result<Option<u64>, AllocError>
+fn least_back(alloc: Global, successors: &[Sequence<u64>]) -> Result<Option<u64>, AllocError>
     requires { IsClosed successors.now }
     ensures { IfOk result (λ first. MatchOption first (NoneBack successors.now) (IsFirstBack successors.now)) }
 {
@@ -48,11 +45,7 @@ fn least_back(
 }
 
 // Whether a walk leads from a node back to it.
-fn leads_back(
-    alloc: Global,
-    successors: &[Sequence<u64>],
-    start: u64,
-) -> Result<bool, AllocError>
+fn leads_back(alloc: Global, successors: &[Sequence<u64>], start: u64) -> Result<bool, AllocError>
     requires closed { IsClosed successors.now }
     requires start_in { start < length successors.now }
     ensures { IfOk result (λ back. MatchBool back (Walk successors.now start start) (Walk successors.now start start → ⊥)) }

@@ -13,10 +13,7 @@ use hg_ops::{OpKind, input_count};
 use std::alloc::{AllocError, Global};
 
 /// A list for each node, with the nodes to which a value link or an order link leads from it.
-pub(crate) fn successors_of(
-    alloc: Global,
-    graph: &Graph,
-) -> Result<Vec<Sequence<u64>>, AllocError>
+pub(crate) fn successors_of(alloc: Global, graph: &Graph) -> Result<Vec<Sequence<u64>>, AllocError>
     ensures { IfOk result (λ lists. AreSuccessors graph.now lists.items) }
 {
     let mut lists = no_successors(alloc, graph.node_count())?;

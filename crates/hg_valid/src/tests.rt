@@ -1,6 +1,7 @@
 //! Tests of the rules, on one small graph for each.
 
 mod graphs;
+mod orders;
 
 use self::graphs::{Kind, graph_of};
 use crate::{Invalid, validate};

@@ -39,6 +39,7 @@ struct Walk {
 /// Takes steps in proportion to the structs and the names that they hold.
 pub fn component_numbers(alloc: Global, names: &Names) -> Result<Vec<u64>, AllocError> {
     let mut walk = Walk::new(alloc, names.structs.len())?;
+    // The walk ends by itself, long before so many steps.
     for _ in 0..u64::MAX {
         if !walk.step(alloc, names)? {
             break;

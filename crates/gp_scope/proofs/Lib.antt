@@ -1,0 +1,12 @@
+pub mod TableLemmas
+pub mod Levels
+pub mod CycleLemmas
+pub mod SizeLemmas
+pub mod SearchLemmas
+pub mod SearchSteps
+pub mod SpellLemmas
+pub mod PhaseLemmas
+pub mod KeptFirst
+pub mod ScopeLoops
+pub mod KnownNames
+pub mod ComponentLemmas

@@ -1,0 +1,77 @@
+-- Spelled types: their parts in memory, and their sizes.
+use Rattle.std.proofs.Common.{◌≡◌, ℕ, zero, suc, ◌+◌, ◌<◌, ◌≤◌, List, [], ◌∷◌, ◌++◌, map, length, get_or, take, add-one, refl, sym, ap, ap₂, subst, ◌∙◌, arith}
+use Rattle.gp_tree.specs.declared.type_expr.TypeExpr.{TypeExpr}
+use Rattle.gp_tree.specs.declared.struct_decl.FieldDecl.{FieldDecl}
+use Rattle.gp_tree.specs.Program.{field_definition}
+use Rattle.gp_tree.specs.TypeExpression.{TypeExpression, type_expression, type_expressions, type_step, tuple_type}
+use Rattle.gp_tree.specs.declared.type_expr.TypeExpr.TheFolds.{fold-roll-TypeExpr}
+use Rattle.gp_tree.specs.declared.type_expr.TypeExpr.TheOpen.{TypeExpr-F}
+use Rattle.gp_tree.specs.declared.type_expr.TypeExpr.TheVariants.{Tuple, rolls-Tuple}
+use Rattle.std.specs.declared.alloc.Global.{Global}
+use Rattle.std.specs.declared.vec.Vec.{Vec}
+use Rattle.gp_types.specs.declared.ty.Ty as declared_ty
+use Rattle.gp_types.specs.declared.ty.Field as declared_field
+use Rattle.gp_types.specs.declared.ty.Ty.TheFolds.{fold-roll-Ty, fold_out-Field}
+use Rattle.gp_types.specs.declared.ty.Ty.TheOpen.{Ty-F}
+use Rattle.gp_types.specs.declared.ty.Ty.TheVariants as variants
+use Rattle.gp_types.specs.View.{ty_view, field_view, ty_step, field_step}
+use Rattle.gp_types.specs.Types as types
+use Rattle.gp_types.specs.Types.{Ty, tys_of, fields_of}
+use Rattle.gp_types.specs.Size.{size, total_size, total_field_size}
+use Rattle.gp_scope.specs.Spelled.{spelled_by, all_spelled_by, fields_spelled_by, spelled_field}
+
+pub spelled-items : (w : List ℕ → Ty) (xs : List TypeExpr) → tys_of (map (λ t. spelled_by w (type_expression t)) xs) ≡ all_spelled_by w (type_expressions xs)
+spelled-items w [] = refl
+spelled-items w (x ∷ xs) = ap (λ ts. types.more (spelled_by w (type_expression x)) ts) (spelled-items w xs)
+
+pub spelled-fields : (w : List ℕ → Ty) (xs : List FieldDecl) → fields_of (map (λ f. spelled_field w (field_definition f)) xs) ≡ fields_spelled_by w (map field_definition xs)
+spelled-fields w [] = refl
+spelled-fields w (x ∷ xs) = ap (λ fs. types.field x.name (spelled_by w (type_expression x.ty)) fs) (spelled-fields w xs)
+
+pub item-size : (w : List ℕ → Ty) (xs : List TypeExpr) (i : ℕ) (x : TypeExpr) → i < length xs → x ≡ get_or xs i x
+    → size (spelled_by w (type_expression x)) ≤ total_size (all_spelled_by w (type_expressions xs))
+item-size w [] i x h e = absurd (omega arith)
+item-size w (y ∷ ys) zero x h e =
+    let same : size (spelled_by w (type_expression x)) ≡ size (spelled_by w (type_expression y)) = ap (λ t. size (spelled_by w (type_expression t))) e in
+    omega arith
+item-size w (y ∷ ys) (suc i) x h e =
+    let rest : size (spelled_by w (type_expression x)) ≤ total_size (all_spelled_by w (type_expressions ys)) = item-size w ys i x (omega arith) e in
+    omega arith
+
+pub field-size : (w : List ℕ → Ty) (xs : List FieldDecl) (i : ℕ) (x : FieldDecl) → i < length xs → x ≡ get_or xs i x
+    → size (spelled_by w (type_expression x.ty)) ≤ total_field_size (fields_spelled_by w (map field_definition xs))
+field-size w [] i x h e = absurd (omega arith)
+field-size w (y ∷ ys) zero x h e =
+    let same : size (spelled_by w (type_expression x.ty)) ≡ size (spelled_by w (type_expression y.ty)) = ap (λ t. size (spelled_by w (type_expression t.ty))) e in
+    omega arith
+field-size w (y ∷ ys) (suc i) x h e =
+    let rest : size (spelled_by w (type_expression x.ty)) ≤ total_field_size (fields_spelled_by w (map field_definition ys)) = field-size w ys i x (omega arith) e in
+    omega arith
+
+map-push : {A C : Type 0} (f : A → C) (xs : List A) (x : A) → map f (xs ++ x ∷ []) ≡ map f xs ++ f x ∷ []
+map-push f [] x = refl
+map-push f (y ∷ ys) x = ap (λ l. f y ∷ l) (map-push f ys x)
+
+map-take : {B C : Type 0} (g : B → C) (xs : List B) (i : ℕ) (y : B) → i < length xs → y ≡ get_or xs i y → map g (take (suc i) xs) ≡ map g (take i xs) ++ g y ∷ []
+map-take g [] i y h e = absurd (omega arith)
+map-take g (x ∷ xs) zero y h e = ap (λ z. g z ∷ []) (sym e)
+map-take g (x ∷ xs) (suc i) y h e = ap (λ l. g x ∷ l) (map-take g xs i y (omega arith) e)
+
+-- one part more was made
+pub part-made : {A B C : Type 0} (f : A → C) (g : B → C) (made made' : List A) (x : A) (xs : List B) (i : ℕ) (y : B) → made' ≡ made ++ x ∷ []
+    → map f made ≡ map g (take i xs) → i < length xs → y ≡ get_or xs i y → f x ≡ g y → map f made' ≡ map g (take (i + 1) xs)
+part-made f g made made' x xs i y pushed before h e same =
+    ap (map f) pushed ∙ map-push f made x ∙ ap₂ (λ l z. l ++ z ∷ []) before same ∙ sym (map-take g xs i y h e) ∙ ap (λ k. map g (take k xs)) (sym (add-one i))
+
+-- types in memory, one level seen
+pub ty_view-Tuple : (items : Vec declared_ty.Ty Global) → ty_view (variants.Tuple items) ≡ types.Tuple (tys_of (map ty_view items.items))
+ty_view-Tuple items = ap ty_view (sym (variants.rolls-Tuple items)) ∙ fold-roll-Ty types.Ty types.Field ty_step field_step (Ty-F.Tuple items)
+
+pub ty_view-Struct : (name : List ℕ) (fields : Vec declared_field.Field Global) → ty_view (variants.Struct name fields) ≡ types.Struct name (fields_of (map field_view fields.items))
+ty_view-Struct name fields = ap ty_view (sym (variants.rolls-Struct name fields)) ∙ fold-roll-Ty types.Ty types.Field ty_step field_step (Ty-F.Struct name fields)
+
+pub field_view-made : (name : List ℕ) (ty : declared_ty.Ty) → field_view (record { name = name; ty = ty }) ≡ record { name = name; ty = ty_view ty }
+field_view-made name ty = fold_out-Field types.Ty types.Field ty_step field_step (record { name = name; ty = ty })
+
+pub type_expression-Tuple : (parts : Vec TypeExpr Global) → type_expression (Tuple parts) ≡ tuple_type (type_expressions parts.items)
+type_expression-Tuple parts = ap type_expression (sym (rolls-Tuple parts)) ∙ fold-roll-TypeExpr TypeExpression type_step (TypeExpr-F.Tuple parts)

@@ -18,6 +18,6 @@ from timing import timed
 program = sys.argv[1]
 print("   gates  seconds  us/gate    MiB")
 for gates in (25_000, 50_000, 100_000, 200_000):
-    took, peak = timed([program, str(gates)])
+    took, peak = timed([program, "grow", str(gates)])
     print(f"{gates:8}  {took:7.3f}  {took / gates * 1e6:7.2f}  {peak:5.0f}")
 PY

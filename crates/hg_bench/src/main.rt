@@ -1,5 +1,6 @@
-//! The program `hg_bench`: builds the graph of a function whose one qubit passes through as many gates as the first
-//! word says, and tells how many nodes and links it has. `bench/graph.sh` times it.
+//! The program that the benchmarks of graphs time. Its words are a task and a number: `grow` builds the graph of a function
+//! whose one qubit passes through as many gates, `chain` also tells whether that graph is valid and ordered, and `nest` does so
+//! of a function with as many regions, each in the one before it.
 #![tactic(auto)]
 
 ghost use Rattle.std.specs.Prelude.{◌<◌, length, IfOk, OnOk};
@@ -7,22 +8,61 @@ ghost use Rattle.std.specs.Prelude.{◌<◌, length, IfOk, OnOk};
 use gp_base::Name;
 use hg_graph::{Graph, NodeId, Port};
 use hg_ops::{OpKind, Row};
+use hg_valid::{Invalid, is_ordered, validate};
 use std::alloc::{AllocError, Global};
 use std::env;
+use std::fmt::{self, Display, Formatter, Write};
 use std::rt::Env;
 
-// The gates where no word says how many.
+// How many gates or regions there are where no word says it.
 const FEW: u64 = 1000;
 
-// How many gates the first word asks for.
-fn gates_of<R: Env + AllocGlobal>(rt: &R) -> u64 {
-    let Ok(mut words) = env::args(rt) else {
-        return FEW;
-    };
-    match words.nth(1) {
-        Some(word) => word.as_str().parse::<u64>().unwrap_or(FEW),
-        None => FEW,
+// What is done with a graph.
+#[derive(Clone, Copy, Debug)]
+enum Task {
+    Grow,
+    Chain,
+    Nest,
+}
+
+// The task of a word.
+fn task_of(word: &str) -> Option<Task> {
+    match word {
+        "grow" => Some(Task::Grow),
+        "chain" => Some(Task::Chain),
+        "nest" => Some(Task::Nest),
+        _ => None,
     }
+}
+
+// What was found of a graph.
+#[derive(Clone, Copy, Debug)]
+enum Verdict {
+    Grown { nodes: u64, links: u64 },
+    Ordered,
+    Unordered,
+    Broken { rule: u8 },
+}
+
+impl Display for Verdict {
+    fn fmt<W: Write>(&self, f: &mut Formatter<W>) -> Result<(), fmt::Error> {
+        match self {
+            Verdict::Grown { nodes, links } => write!(f, "{nodes} nodes, {links} links"),
+            Verdict::Ordered => write!(f, "ordered"),
+            Verdict::Unordered => write!(f, "not ordered"),
+            Verdict::Broken { rule } => write!(f, "rule {rule} is broken"),
+        }
+    }
+}
+
+// The task and the number that the words ask for.
+fn job<R: Env + AllocGlobal>(rt: &R) -> Option<(Task, u64)> {
+    let Ok(mut words) = env::args(rt) else {
+        return None;
+    };
+    let task = task_of(words.nth(1)?.as_str())?;
+    let number = words.next()?.as_str().parse::<u64>().ok()?;
+    Some((task, number))
 }
 
 // Adds a node behind another, with the qubit from it.
@@ -85,8 +125,63 @@ fn chain(alloc: Global, gates: u64) -> Result<Graph, AllocError> {
     Ok(graph)
 }
 
+// Adds a region under a node, with its `Input` and its `Output`.
+fn add_region(graph: &mut Graph, alloc: Global, parent: NodeId) -> Result<NodeId, AllocError>
+    requires { parent.0 < length graph.old.nodes }
+    ensures node_in { IfOk result (λ node. node.0 < length graph.new.nodes) }
+{
+    let (ins, outs) = (Row::new(alloc), Row::new(alloc));
+    let region = graph.add_node(OpKind::Dfg { ins, outs }, parent)?;
+    let types = Row::new(alloc);
+    graph.add_node(OpKind::Input { types }, region)?;
+    let types = Row::new(alloc);
+    graph.add_node(OpKind::Output { types }, region)?;
+    Ok(region)
+}
+
+// The graph in which a function has this many regions, each in the one before it.
+fn nest(alloc: Global, regions: u64) -> Result<Graph, AllocError> {
+    let mut graph = Graph::new(alloc)?;
+    let mut last = add_function(&mut graph, alloc)?;
+    for _ in 0..regions {
+        last = add_region(&mut graph, alloc, last)?;
+    }
+    Ok(graph)
+}
+
+// Whether a graph is valid and ordered.
+fn verdict_of(alloc: Global, graph: Graph) -> Result<Verdict, AllocError> {
+    match validate(alloc, graph) {
+        Ok(valid) if is_ordered(alloc, &valid)? => Ok(Verdict::Ordered),
+        Ok(_) => Ok(Verdict::Unordered),
+        Err(Invalid::Rule { rule, .. }) => Ok(Verdict::Broken { rule }),
+        Err(Invalid::Memory { .. }) => Err(AllocError),
+    }
+}
+
+// Does a task with this number of gates or regions.
+fn done(alloc: Global, task: Task, number: u64) -> Result<Verdict, AllocError> {
+    match task {
+        Task::Grow => {
+            let graph = chain(alloc, number)?;
+            Ok(Verdict::Grown {
+                nodes: graph.node_count(),
+                links: graph.link_count(),
+            })
+        }
+        Task::Chain => verdict_of(alloc, chain(alloc, number)?),
+        Task::Nest => verdict_of(alloc, nest(alloc, number)?),
+    }
+}
+
 fn main(rt: HostRuntime) -> anyhow::Result<()> {
-    let graph = chain(rt.alloc(), gates_of(&rt))?;
-    println!(rt; "nodes {} links {}", graph.node_count(), graph.link_count())?;
+    match job(&rt) {
+        Some((task, number)) => println!(rt; "{}", done(rt.alloc(), task, number)?)?,
+        None => {
+            for task in [Task::Grow, Task::Chain, Task::Nest] {
+                println!(rt; "{}", done(rt.alloc(), task, FEW)?)?;
+            }
+        }
+    }
     Ok(())
 }

@@ -1,5 +1,5 @@
 use Rattle.std.proofs.Common.{◌<◌, length}
-use Rattle.hg_valid_bench.proofs.nest.Given as goal
+use Rattle.hg_bench.proofs.nest.Given as goal
 
 -- the last region is a node
 abbrev pub invariant-loop : goal.invariant-loop

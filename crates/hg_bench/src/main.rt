@@ -8,7 +8,7 @@ ghost use Rattle.std.specs.Prelude.{◌<◌, length, IfOk, OnOk};
 use gp_base::Name;
 use hg_graph::{Graph, NodeId, Port};
 use hg_ops::{OpKind, Row};
-use hg_valid::{Invalid, is_ordered, validate};
+use hg_valid::{Invalid, Valid, is_ordered, validate};
 use std::alloc::{AllocError, Global};
 use std::env;
 use std::fmt::{self, Display, Formatter, Write};
@@ -149,11 +149,19 @@ fn nest(alloc: Global, regions: u64) -> Result<Graph, AllocError> {
     Ok(graph)
 }
 
+// Whether a valid graph is ordered.
+fn order_of(alloc: Global, graph: &Valid) -> Result<Verdict, AllocError> {
+    if is_ordered(alloc, graph)? {
+        Ok(Verdict::Ordered)
+    } else {
+        Ok(Verdict::Unordered)
+    }
+}
+
 // Whether a graph is valid and ordered.
 fn verdict_of(alloc: Global, graph: Graph) -> Result<Verdict, AllocError> {
     match validate(alloc, graph) {
-        Ok(valid) if is_ordered(alloc, &valid)? => Ok(Verdict::Ordered),
-        Ok(_) => Ok(Verdict::Unordered),
+        Ok(valid) => order_of(alloc, &valid),
         Err(Invalid::Rule { rule, .. }) => Ok(Verdict::Broken { rule }),
         Err(Invalid::Memory { .. }) => Err(AllocError),
     }

@@ -1,8 +1,11 @@
 -- What holds of the runs of one graph.
-use Rattle.std.specs.Prelude.{ℕ, List}
+use Rattle.std.specs.Prelude.{◌≡◌, ℕ, ◌<◌, Bool, false, List, [], length}
 use Rattle.gp_base.specs.Clean.{IsCleanBetween, world_after}
-use Rattle.gp_base.specs.World.{World}
-use Rattle.hg_graph.specs.Graph.{Graph}
+use Rattle.gp_base.specs.Run.{Returned}
+use Rattle.gp_base.specs.World.{World, start, is_live}
+use Rattle.hg_ops.specs.GraphType.{GraphType, is_linear}
+use Rattle.hg_ops.specs.Op.{Types, FuncDefn}
+use Rattle.hg_graph.specs.Graph.{Graph, In, op_at}
 use Rattle.hg_graph.specs.Moments.{HasOnePlace, EachMoment, IsProper, ReturnsItsQubits, EndsWell, noted_run, notes_of}
 use Rattle.hg_graph.specs.Run.{graph_run}
 use Rattle.hg_graph.specs.Value.{Value}
@@ -22,3 +25,10 @@ RunsEndWell g =
 -- The events of a run are clean from its world, and leave the flags of the world after it.
 abbrev pub HasCleanRuns : Graph → Type 0
 HasCleanRuns g = (f : ℕ) (arguments : List Value) (w : World) (picks : List ℕ) → IsCleanBetween w (world_after (graph_run g f arguments w picks))
+
+-- A function without inputs and without a linear output, run from the start, holds no qubit where it returns.
+abbrev pub ClosedRunsHoldNone : Graph → Type 0
+ClosedRunsHoldNone g =
+    (f : ℕ) (name : List ℕ) (outs : Types) → f < length g.nodes → op_at g f ≡ FuncDefn name [] outs
+    → ((type : GraphType) → In type outs → is_linear type ≡ false) → (turns : ℕ) (outcomes : List Bool) (picks : List ℕ) (returned : List Value) (w : World)
+    → graph_run g f [] (start turns outcomes) picks ≡ Returned returned w → (q : ℕ) → is_live w.flags q ≡ false

@@ -3,11 +3,13 @@
 ghost use Rattle.std.specs.Prelude.{◌≡◌, IfOk, IfErr};
 ghost use Rattle.hg_graph.specs.Valid.{IsValid};
 ghost use Rattle.hg_valid.specs.Refused.{IsRefused};
-ghost use Rattle.hg_valid.specs.Runs.{KeepsPlaces, RunsEndWell, HasCleanRuns};
+ghost use Rattle.hg_valid.specs.Runs.{KeepsPlaces, RunsEndWell, ClosedRunsHoldNone, HasCleanRuns};
 
 use crate::broken::first_broken;
 use hg_graph::{Graph, NodeId};
-use hg_laws::{runs_are_clean, valid_graphs_end_well, valid_graphs_keep_places};
+use hg_laws::{
+    closed_runs_hold_none, runs_are_clean, valid_graphs_end_well, valid_graphs_keep_places,
+};
 use std::alloc::{AllocError, Global};
 use std::marker::Model;
 
@@ -82,11 +84,13 @@ pub fn validate(alloc: Global, graph: Graph) -> Result<Valid, Invalid>
     ensures valid { IfOk result (λ valid. IsValid valid) }
     ensures places { IfOk result (λ valid. KeepsPlaces valid) }
     ensures ends { IfOk result (λ valid. RunsEndWell valid) }
+    ensures closed { IfOk result (λ valid. ClosedRunsHoldNone valid) }
     ensures clean { IfOk result (λ valid. HasCleanRuns valid) }
     ensures err { IfErr result (λ invalid. IsRefused graph invalid) }
 {
     valid_graphs_keep_places();
     valid_graphs_end_well();
+    closed_runs_hold_none();
     runs_are_clean();
     match first_broken(alloc, &graph) {
         Ok(None) => Ok(Valid { graph }),

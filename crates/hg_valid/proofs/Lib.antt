@@ -12,3 +12,4 @@ pub mod Edges
 pub mod EffectNodes
 pub mod RegionCounts
 pub mod Reached
+pub mod LevelLemmas

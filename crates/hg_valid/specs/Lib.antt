@@ -16,3 +16,4 @@ pub mod Effects
 pub mod Regions
 pub mod SameRuns
 pub mod Reach
+pub mod Levels

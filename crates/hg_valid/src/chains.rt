@@ -146,8 +146,8 @@ impl Search {
     }
 }
 
-// The greatest count of the nodes in a list; 0 where the list is empty.
-fn greatest(counts: &[u64], nodes: &[u64]) -> u64
+/// The greatest count of the nodes in a list; 0 where the list is empty.
+pub(crate) fn greatest(counts: &[u64], nodes: &[u64]) -> u64
     requires { (k : ℕ) → k < length nodes.now → slice_index nodes.now k < length counts.now }
     ensures each { (k : ℕ) → k < length nodes.now → slice_index counts.now (slice_index nodes.now k) ≤ result }
     ensures one { (result ≡ 0) ⊎ ((k : ℕ) × (k < length nodes.now) × (slice_index counts.now (slice_index nodes.now k) ≡ result)) }

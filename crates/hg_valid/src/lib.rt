@@ -7,6 +7,7 @@ mod broken;
 mod chains;
 mod cycle;
 mod effects;
+mod levels;
 mod links;
 mod names;
 mod nodes;

@@ -6,6 +6,7 @@ ghost use Rattle.hg_valid.specs.Chains.{is_marked};
 ghost use Rattle.hg_valid.specs.Reach.{IsReach, HasFollowed, IsFirstBack, NoneBack};
 
 use crate::chains::longest_chains;
+use crate::levels::{first_level, levels_of};
 use gp_base::Sequence;
 use std::alloc::{AllocError, Global};
 
@@ -31,8 +32,22 @@ fn all_marks(alloc: Global, count: usize) -> Result<Vec<bool>, AllocError>
     vec![in alloc; true; count]
 }
 
-// The same, where there may well be one.
+// The same, where there may well be one: levels tell the node, and one search from it confirms it.
 fn least_back(alloc: Global, successors: &[Sequence<u64>]) -> Result<Option<u64>, AllocError>
+    requires { IsClosed successors.now }
+    ensures { IfOk result (λ first. MatchOption first (NoneBack successors.now) (IsFirstBack successors.now)) }
+{
+    let levels = levels_of(alloc, successors)?;
+    if let Some(node) = first_level(successors, &levels) {
+        if leads_back(alloc, successors, node)? {
+            return Ok(Some(node));
+        }
+    }
+    least_tried(alloc, successors)
+}
+
+// The same by a search from each node: the way out where the levels didn't tell the node.
+fn least_tried(alloc: Global, successors: &[Sequence<u64>]) -> Result<Option<u64>, AllocError>
     requires { IsClosed successors.now }
     ensures { IfOk result (λ first. MatchOption first (NoneBack successors.now) (IsFirstBack successors.now)) }
 {

@@ -117,3 +117,20 @@ fn the_least_node_on_a_cycle(rt: HostRuntime) -> Result<(), Fail> {
     assert_eq!(rt; verdict(alloc, itself), (10, 5));
     Ok(())
 }
+
+// A way of 2,000 links to two nodes that lead to one another.
+#[test]
+fn a_long_way_to_a_cycle(rt: HostRuntime) -> Result<(), Fail> {
+    let alloc = rt.alloc();
+    let mut nodes = vec![in alloc; MAIN, INPUT, OUTPUT]?;
+    let mut orders = Vec::new(alloc);
+    for node in 4..2005 {
+        nodes.push(PURE)?;
+        orders.push((node, node + 1))?;
+    }
+    nodes.push(PURE)?;
+    orders.push((2005, 2004))?;
+    let graph = ordered_graph(alloc, &nodes, &[], &orders)?;
+    assert_eq!(rt; verdict(alloc, graph), (10, 2004));
+    Ok(())
+}

@@ -2,6 +2,7 @@
 
 mod graphs;
 mod orders;
+mod pairs;
 
 use self::graphs::{Kind, graph_of};
 use crate::{Invalid, validate};

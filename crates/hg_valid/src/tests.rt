@@ -2,7 +2,6 @@
 
 mod graphs;
 mod orders;
-mod pairs;
 
 use self::graphs::{Kind, graph_of};
 use crate::{Invalid, validate};

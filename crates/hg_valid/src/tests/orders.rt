@@ -8,7 +8,7 @@ use std::alloc::{AllocError, Global};
 use std::test::Fail;
 
 // The graph of these nodes, behind the `Module`, of these links and of these order links.
-pub fn ordered_graph(
+fn ordered_graph(
     alloc: Global,
     nodes: &[(Kind, u64)],
     links: &[(u64, u64, u64, u64)],
@@ -24,7 +24,7 @@ pub fn ordered_graph(
 }
 
 // Whether it is ordered; `None` where it isn't valid.
-pub fn told(
+fn told(
     alloc: Global,
     nodes: &[(Kind, u64)],
     links: &[(u64, u64, u64, u64)],

@@ -14,7 +14,7 @@ ghost use Rattle.gp_scope.specs.FirstFault.{CyclesAnswer};
 ghost use Rattle.gp_scope.specs.Tables.{struct_at, texts_of, value_in};
 ghost use Rattle.gp_scope.specs.NamesOf.{AreNames};
 
-use crate::components::component_numbers;
+use crate::components::struct_components;
 use crate::definitions::struct_table;
 use crate::fault::ScopeFault;
 use crate::names::{Names, value_of};
@@ -24,13 +24,14 @@ use std::alloc::{AllocError, Global};
 
 /// No struct holds itself, through fields and tuples.
 ///
-/// The numbers of components show for nearly all structs that they are on no cycle; the first of which they don't show
-/// it is searched from.
+/// The numbers of components show for nearly all structs that they are on no cycle; those of which they don't show it
+/// are searched from, up to the first that is on one. One of the first component is searched from in any case, since a
+/// name that is no struct has that number too.
 pub fn check_cycles(alloc: Global, names: &Names) -> Result<(), ScopeFault>
     requires { AreNames names.now }
     ensures { CyclesAnswer (program_items names.now.items.now) result }
 {
-    let numbers = component_numbers(alloc, names)?;
+    let numbers = struct_components(alloc, names)?;
     let ordered = are_ordered(names, &numbers);
     for item in names.items {
         if let Item::Struct(decl) = item {

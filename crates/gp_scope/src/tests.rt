@@ -1,16 +1,12 @@
 //! What the rules of names say of small programs, and of long ones.
 
-use crate::components::component_numbers;
-use crate::definitions::struct_table;
 use crate::fault::ScopeFault;
 use crate::modules::offers;
-use crate::names::Names;
 use crate::phase::collect;
 use crate::programs::{after_imports, program};
 use crate::scope::Scope;
 use gp_base::LineNo;
 use gp_types::{Mode, Ty, leaf_count, size};
-use indexmap::IndexSet;
 use std::alloc::{AllocError, Global};
 use std::process::Abort;
 use std::test::Fail;
@@ -249,20 +245,6 @@ fn a_scope_has_imports_and_annotated_types(rt: HostRuntime) -> Result<(), Fail> 
     let ty = scope.annotated(LineNo(15)).ok_or("no annotated type")?;
     assert_eq!(rt; size(ty), 6);
     assert!(rt; scope.annotated(LineNo(14)).is_none());
-    Ok(())
-}
-
-#[test]
-fn components_come_after_those_that_they_lead_to(rt: HostRuntime) -> Result<(), Fail> {
-    let text = "struct 1 A a:B;struct 2 B a:A;struct 3 C a:A;struct 4 D a:E;struct 5 E a:int";
-    let program = program(rt.alloc(), text)?;
-    let names = Names {
-        items: program.as_slice(),
-        imported: IndexSet::new(rt.alloc()),
-        structs: struct_table(rt.alloc(), program.as_slice())?,
-    };
-    let numbers = component_numbers(rt.alloc(), &names)?;
-    assert_eq!(rt; numbers.as_slice(), [2, 2, 3, 5, 4].as_slice());
     Ok(())
 }
 

@@ -6,8 +6,9 @@ ghost use Rattle.hg_valid.specs.Chains.{is_marked};
 ghost use Rattle.hg_valid.specs.Reach.{IsReach, HasFollowed, IsFirstBack, NoneBack};
 
 use crate::chains::longest_chains;
-use crate::levels::{first_level, levels_of};
+use crate::levels::first_level;
 use gp_base::Sequence;
+use gp_components::component_numbers;
 use std::alloc::{AllocError, Global};
 
 /// The least node from which a walk leads back to it; `None` exactly where there is none.
@@ -37,7 +38,7 @@ fn least_back(alloc: Global, successors: &[Sequence<u64>]) -> Result<Option<u64>
     requires { IsClosed successors.now }
     ensures { IfOk result (λ first. MatchOption first (NoneBack successors.now) (IsFirstBack successors.now)) }
 {
-    let levels = levels_of(alloc, successors)?;
+    let levels = component_numbers(alloc, successors)?;
     if let Some(node) = first_level(successors, &levels) {
         if leads_back(alloc, successors, node)? {
             return Ok(Some(node));

@@ -2,20 +2,27 @@
 
 mod graphs;
 mod orders;
+mod pairs;
 
 use self::graphs::{Kind, graph_of};
+use crate::broken::Broken;
 use crate::{Invalid, validate};
 use hg_graph::{Graph, NodeId};
-use std::alloc::Global;
+use std::alloc::{AllocError, Global};
 use std::test::Fail;
 
-// The number of the broken rule and its node, 0 and 0 of a valid graph, and 16 where memory is short.
-fn verdict(alloc: Global, graph: Graph) -> (u8, u64) {
+// The rule that is told broken, by its number, and the node; `None` of a valid graph.
+fn verdict(alloc: Global, graph: Graph) -> Result<Option<Broken>, AllocError> {
     match validate(alloc, graph) {
-        Ok(_) => (0, 0),
-        Err(Invalid::Rule { rule, node, .. }) => (rule, node.0),
-        Err(Invalid::Memory { .. }) => (16, 0),
+        Ok(_) => Ok(None),
+        Err(Invalid::Rule { rule, node, .. }) => Ok(Some(Broken { rule, node })),
+        Err(Invalid::Memory { .. }) => Err(AllocError),
     }
+}
+
+const fn broken(rule: u8, node: u64) -> Option<Broken> {
+    let node = NodeId(node);
+    Some(Broken { rule, node })
 }
 
 // What is found of the graph of these nodes, behind the `Module`, and these links.
@@ -23,8 +30,8 @@ fn found(
     alloc: Global,
     nodes: &[(Kind, u64)],
     links: &[(u64, u64, u64, u64)],
-) -> Result<(u8, u64), Fail> {
-    Ok(verdict(alloc, graph_of(alloc, nodes, links)?))
+) -> Result<Option<Broken>, AllocError> {
+    verdict(alloc, graph_of(alloc, nodes, links)?)
 }
 
 // The first nodes of most graphs: a function without values.
@@ -78,11 +85,11 @@ fn places_and_children(rt: HostRuntime) -> Result<(), Fail> {
         (Kind::Module, 0),
         (Kind::Module, 0),
     ];
-    assert_eq!(rt; found(alloc, &modules, &[])?, (1, 2));
+    assert_eq!(rt; found(alloc, &modules, &[])?, broken(1, 2));
     let outside = [(Kind::H, 0), (Kind::Free, 0)];
-    assert_eq!(rt; found(alloc, &outside, &[])?, (2, 1));
+    assert_eq!(rt; found(alloc, &outside, &[])?, broken(2, 1));
     let both = [(Kind::H, 0), (Kind::Module, 0)];
-    assert_eq!(rt; found(alloc, &both, &[])?, (1, 2));
+    assert_eq!(rt; found(alloc, &both, &[])?, broken(1, 2));
     Ok(())
 }
 
@@ -90,15 +97,15 @@ fn places_and_children(rt: HostRuntime) -> Result<(), Fail> {
 fn first_children(rt: HostRuntime) -> Result<(), Fail> {
     let alloc = rt.alloc();
     let swapped = [MAIN, OUTPUT, INPUT, (Kind::Main("other"), 0)];
-    assert_eq!(rt; found(alloc, &swapped, &[])?, (3, 1));
+    assert_eq!(rt; found(alloc, &swapped, &[])?, broken(3, 1));
     let third = [MAIN, INPUT, OUTPUT, (Kind::Input0, 1)];
-    assert_eq!(rt; found(alloc, &third, &[])?, (3, 1));
+    assert_eq!(rt; found(alloc, &third, &[])?, broken(3, 1));
     let types = [(Kind::Turn("main"), 0), (Kind::Input1, 1), OUTPUT];
-    assert_eq!(rt; found(alloc, &types, &[])?, (3, 1));
+    assert_eq!(rt; found(alloc, &types, &[])?, broken(3, 1));
     let blocks = [MAIN, INPUT, OUTPUT, (Kind::Cfg0, 1), (Kind::Cfg0, 1)];
-    assert_eq!(rt; found(alloc, &blocks, &[])?, (4, 4));
+    assert_eq!(rt; found(alloc, &blocks, &[])?, broken(4, 4));
     let cases = [MAIN, INPUT, OUTPUT, (Kind::Choice, 1)];
-    assert_eq!(rt; found(alloc, &cases, &[])?, (5, 4));
+    assert_eq!(rt; found(alloc, &cases, &[])?, broken(5, 4));
     Ok(())
 }
 
@@ -107,12 +114,12 @@ fn links_and_ports(rt: HostRuntime) -> Result<(), Fail> {
     let alloc = rt.alloc();
     let nodes = [MAIN, INPUT, OUTPUT, ALLOC, H, FREE];
     let ports = [(4, 0, 6, 1), (4, 0, 5, 1)];
-    assert_eq!(rt; found(alloc, &nodes, &ports)?, (6, 5));
-    assert_eq!(rt; found(alloc, &nodes, &[(4, 0, 6, 0)])?, (7, 5));
+    assert_eq!(rt; found(alloc, &nodes, &ports)?, broken(6, 5));
+    assert_eq!(rt; found(alloc, &nodes, &[(4, 0, 6, 0)])?, broken(7, 5));
     let twice = [(4, 0, 5, 0), (4, 0, 5, 0), (5, 0, 6, 0)];
-    assert_eq!(rt; found(alloc, &nodes, &twice)?, (7, 5));
+    assert_eq!(rt; found(alloc, &nodes, &twice)?, broken(7, 5));
     let loose = [MAIN, INPUT, OUTPUT, ALLOC, ALLOC];
-    assert_eq!(rt; found(alloc, &loose, &[])?, (8, 4));
+    assert_eq!(rt; found(alloc, &loose, &[])?, broken(8, 4));
     Ok(())
 }
 
@@ -135,7 +142,7 @@ fn an_output_of_a_conditional(rt: HostRuntime) -> Result<(), Fail> {
         (Kind::Alloc, 10),
     ];
     let links = [(4, 0, 5, 0), (9, 0, 8, 0), (13, 0, 12, 0)];
-    assert_eq!(rt; found(alloc, &nodes, &links)?, (8, 5));
+    assert_eq!(rt; found(alloc, &nodes, &links)?, broken(8, 5));
     Ok(())
 }
 
@@ -155,7 +162,7 @@ fn parents_of_links(rt: HostRuntime) -> Result<(), Fail> {
         (Kind::Free, 6),
     ];
     let links = [(4, 0, 10, 0), (5, 0, 9, 0)];
-    assert_eq!(rt; found(alloc, &nodes, &links)?, (9, 9));
+    assert_eq!(rt; found(alloc, &nodes, &links)?, broken(9, 9));
     Ok(())
 }
 
@@ -173,9 +180,9 @@ fn blocks_and_successors(rt: HostRuntime) -> Result<(), Fail> {
         (Kind::OutputOne, 5),
         (Kind::One(0), 5),
     ];
-    assert_eq!(rt; found(alloc, &nodes, &[(9, 0, 8, 0)])?, (11, 5));
+    assert_eq!(rt; found(alloc, &nodes, &[(9, 0, 8, 0)])?, broken(11, 5));
     let linked = [(9, 0, 8, 0), (5, 0, 6, 0)];
-    assert_eq!(rt; found(alloc, &nodes, &linked)?, (0, 0));
+    assert_eq!(rt; found(alloc, &nodes, &linked)?, None);
     Ok(())
 }
 
@@ -183,7 +190,7 @@ fn blocks_and_successors(rt: HostRuntime) -> Result<(), Fail> {
 fn static_links(rt: HostRuntime) -> Result<(), Fail> {
     let alloc = rt.alloc();
     let unlinked = [MAIN, INPUT, OUTPUT, (Kind::Call0, 1), (Kind::Load, 1)];
-    assert_eq!(rt; found(alloc, &unlinked, &[])?, (12, 4));
+    assert_eq!(rt; found(alloc, &unlinked, &[])?, broken(12, 4));
     let other = (Kind::Main("other"), 0);
     let far = [
         MAIN,
@@ -195,9 +202,9 @@ fn static_links(rt: HostRuntime) -> Result<(), Fail> {
         (Kind::Output0, 5),
         (Kind::Load, 5),
     ];
-    assert_eq!(rt; found(alloc, &far, &[(4, 0, 8, 0)])?, (12, 8));
+    assert_eq!(rt; found(alloc, &far, &[(4, 0, 8, 0)])?, broken(12, 8));
     let near = [MAIN, INPUT, OUTPUT, (Kind::Const, 0), (Kind::Load, 1)];
-    assert_eq!(rt; found(alloc, &near, &[(4, 0, 5, 0)])?, (0, 0));
+    assert_eq!(rt; found(alloc, &near, &[(4, 0, 5, 0)])?, None);
     Ok(())
 }
 
@@ -214,9 +221,9 @@ fn callees_and_names(rt: HostRuntime) -> Result<(), Fail> {
         (Kind::Call0, 1),
     ];
     let called = [(5, 0, 6, 0), (4, 0, 7, 0)];
-    assert_eq!(rt; found(alloc, &nodes, &called)?, (13, 7));
+    assert_eq!(rt; found(alloc, &nodes, &called)?, broken(13, 7));
     let itself = [(5, 0, 6, 0), (1, 0, 7, 0)];
-    assert_eq!(rt; found(alloc, &nodes, &itself)?, (14, 4));
+    assert_eq!(rt; found(alloc, &nodes, &itself)?, broken(14, 4));
     Ok(())
 }
 
@@ -224,7 +231,7 @@ fn callees_and_names(rt: HostRuntime) -> Result<(), Fail> {
 fn tags(rt: HostRuntime) -> Result<(), Fail> {
     let alloc = rt.alloc();
     let rows = [MAIN, INPUT, OUTPUT, (Kind::One(0), 1), (Kind::One(1), 1)];
-    assert_eq!(rt; found(alloc, &rows, &[])?, (15, 5));
+    assert_eq!(rt; found(alloc, &rows, &[])?, broken(15, 5));
     let reports = [
         MAIN,
         INPUT,
@@ -234,23 +241,23 @@ fn tags(rt: HostRuntime) -> Result<(), Fail> {
         (Kind::Report(""), 1),
     ];
     let links = [(4, 0, 5, 0), (5, 0, 6, 0)];
-    assert_eq!(rt; found(alloc, &reports, &links)?, (15, 6));
+    assert_eq!(rt; found(alloc, &reports, &links)?, broken(15, 6));
     Ok(())
 }
 
 // What is found of two gates in a circle, which two nodes stand behind.
-fn found_of_circle(alloc: Global) -> Result<(u8, u64), Fail> {
+fn found_of_circle(alloc: Global) -> Result<Option<Broken>, AllocError> {
     let nodes = [MAIN, INPUT, OUTPUT, (Kind::One(0), 1), H, H];
     let mut graph = graph_of(alloc, &nodes, &[(5, 0, 6, 0), (6, 0, 5, 0)])?;
     if graph.node_count() > 6 {
         graph.order(NodeId(6), NodeId(4))?;
         graph.order(NodeId(4), NodeId(3))?;
     }
-    Ok(verdict(alloc, graph))
+    verdict(alloc, graph)
 }
 
 #[test]
 fn circles(rt: HostRuntime) -> Result<(), Fail> {
-    assert_eq!(rt; found_of_circle(rt.alloc())?, (10, 5));
+    assert_eq!(rt; found_of_circle(rt.alloc())?, broken(10, 5));
     Ok(())
 }

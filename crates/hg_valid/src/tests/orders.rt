@@ -1,14 +1,14 @@
 //! Whether graphs are ordered, and which node is the least on a cycle.
 
 use super::graphs::{Kind, graph_of};
-use super::{ALLOC, FREE, INPUT, MAIN, OUTPUT, verdict};
+use super::{ALLOC, FREE, INPUT, MAIN, OUTPUT, broken, verdict};
 use crate::{is_ordered, validate};
 use hg_graph::{Graph, NodeId};
 use std::alloc::{AllocError, Global};
 use std::test::Fail;
 
 // The graph of these nodes, behind the `Module`, of these links and of these order links.
-fn ordered_graph(
+pub fn ordered_graph(
     alloc: Global,
     nodes: &[(Kind, u64)],
     links: &[(u64, u64, u64, u64)],
@@ -24,7 +24,7 @@ fn ordered_graph(
 }
 
 // Whether it is ordered; `None` where it isn't valid.
-fn told(
+pub fn told(
     alloc: Global,
     nodes: &[(Kind, u64)],
     links: &[(u64, u64, u64, u64)],
@@ -112,9 +112,9 @@ fn the_least_node_on_a_cycle(rt: HostRuntime) -> Result<(), Fail> {
     let nodes = [MAIN, INPUT, OUTPUT, PURE, PURE, PURE, PURE, PURE, PURE];
     let two = [(5, 6), (6, 7), (7, 6), (7, 4), (4, 8), (8, 9), (9, 8)];
     let graph = ordered_graph(alloc, &nodes, &[], &two)?;
-    assert_eq!(rt; verdict(alloc, graph), (10, 6));
+    assert_eq!(rt; verdict(alloc, graph)?, broken(10, 6));
     let itself = ordered_graph(alloc, &nodes, &[], &[(4, 5), (5, 5)])?;
-    assert_eq!(rt; verdict(alloc, itself), (10, 5));
+    assert_eq!(rt; verdict(alloc, itself)?, broken(10, 5));
     Ok(())
 }
 
@@ -131,6 +131,6 @@ fn a_long_way_to_a_cycle(rt: HostRuntime) -> Result<(), Fail> {
     nodes.push(PURE)?;
     orders.push((2005, 2004))?;
     let graph = ordered_graph(alloc, &nodes, &[], &orders)?;
-    assert_eq!(rt; verdict(alloc, graph), (10, 2004));
+    assert_eq!(rt; verdict(alloc, graph)?, broken(10, 2004));
     Ok(())
 }

@@ -26,8 +26,8 @@ impl Model for Tag {
     ghost invariant = { λ tag. IsTag tag.bytes.items };
 }
 
-// Whether the bytes are a tag.
-fn is_tag(bytes: &[u8]) -> bool
+/// Whether the bytes are a tag: 1 to 255 characters from the blank to `~`.
+pub fn is_tag(bytes: &[u8]) -> bool
     ensures { IsTrue result ↔ IsTag bytes.now }
 {
     !bytes.is_empty() && bytes.len() <= TAG_LIMIT && bytes.iter().all(|b| 32 <= *b && *b <= 126)

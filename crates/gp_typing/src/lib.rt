@@ -26,16 +26,3 @@ pub use typed::{
     NameType, NameTypes, TypedBlock, TypedExpr, TypedExprs, TypedFunction, TypedKind, TypedStmt,
     TypedStmtKind, TypedStmts,
 };
-
-#[cfg(test)]
-mod expression_tests;
-#[cfg(test)]
-mod function_tests;
-#[cfg(test)]
-mod loop_tests;
-#[cfg(test)]
-mod statement_tests;
-#[cfg(test)]
-mod test_program;
-#[cfg(test)]
-mod test_setting;

@@ -26,7 +26,7 @@ pub struct CheckedText {
 ///
 /// Four phases follow one another: lines and tokens (`Lex`), forms of lines and nesting (`Parse`), names (`Scope`) and
 /// types (`Type`). Each goes over the whole text before the next begins, so a fault of an earlier phase comes first also
-/// where it stands further down.
+/// where it stands further down. Within `Parse` a line without a form comes before a fault of nesting.
 pub fn check_text(alloc: Global, text: &[u8]) -> Result<CheckedText, TextFault>
     requires { length text.now ≤ 131072 }
     ensures { IsChecked text.now result }

@@ -219,6 +219,23 @@ fn annotations_have_known_types(rt: HostRuntime) -> Result<(), Fail> {
 }
 
 #[test]
+fn a_text_for_each_fault(rt: HostRuntime) -> Result<(), Fail> {
+    let rows = [
+        ("from math import pi\n", import_unknown(4)),
+        (
+            "@guppy\ndef f() -> None:\n    pass\n@guppy\ndef f() -> None:\n    pass\n",
+            name_twice(8),
+        ),
+        (
+            "@guppy\ndef f(q: Qubit) -> None:\n    pass\n",
+            unknown_type(5),
+        ),
+        ("@guppy.struct\nclass A:\n    a: A\n", struct_cycle(5)),
+    ];
+    have_faults(&rt, rt.alloc(), IMPORTS, &rows)
+}
+
+#[test]
 fn structs_do_not_hold_themselves(rt: HostRuntime) -> Result<(), Fail> {
     let rows = [
         ("@guppy.struct\nclass A:\n    a: A\n", struct_cycle(5)),

@@ -1,7 +1,10 @@
 //! Texts that pass, and what is known of them.
 
 use crate::checked::CheckedText;
-use crate::tests::faults::{mismatch, not_on_every_path};
+use crate::tests::faults::{
+    borrowed_assigned, loop_changes_type, mismatch, missing_return, not_on_every_path,
+    unknown_name, unreachable, wrong_count,
+};
 use crate::tests::texts::{IMPORTS, MAIN, checked, have_faults};
 use gp_types::{Ty, leaf_count, size};
 use gp_typing::{NameTypes, TypedFunction, TypedStmts};
@@ -127,6 +130,32 @@ fn small_programs_pass(rt: HostRuntime) -> Result<(), Fail> {
         (
             "    a = qubit()\n    b = qubit()\n    a, b = b, a\n    h(a)\n    rz(a, 16384)\n    rz(b, -1)\n    reset(b)\n    discard(a)\n    discard(b)\n",
             None,
+        ),
+    ];
+    have_faults(&rt, rt.alloc(), MAIN, &rows)
+}
+
+#[test]
+fn a_text_for_each_fault_of_types(rt: HostRuntime) -> Result<(), Fail> {
+    let rows = [
+        ("    n = m\n", unknown_name(6)),
+        ("    h()\n", wrong_count(6)),
+        ("    while 1:\n        pass\n", mismatch(6)),
+        (
+            "    while True:\n        pass\n    result(\"n\", 1)\n",
+            unreachable(8),
+        ),
+        (
+            "    n = 1\n    for i in range(2):\n        n = True\n",
+            loop_changes_type(7),
+        ),
+        (
+            "    pass\n@guppy\ndef f(q: qubit) -> None:\n    q = qubit()\n",
+            borrowed_assigned(9),
+        ),
+        (
+            "    pass\n@guppy\ndef f() -> int:\n    pass\n",
+            missing_return(8),
         ),
     ];
     have_faults(&rt, rt.alloc(), MAIN, &rows)

@@ -1,7 +1,6 @@
 -- What the phases, one after another, say of a source text.
-use Rattle.std.specs.Prelude.{◌≡◌, ℕ, List, Option, Result, Ok, Err}
+use Rattle.std.specs.Prelude.{◌≡◌, ℕ, List, Result, Ok, Err}
 use Rattle.gp_lex.specs.declared.line.LogicalLine.{LogicalLine}
-use Rattle.gp_lex.specs.declared.fault.LexFault.{LexFault}
 use Rattle.gp_lex.specs.Lines.{IsLexed}
 use Rattle.gp_tree.specs.declared.program.Item.{Item}
 use Rattle.gp_tree.specs.Program.{program_items}

@@ -244,6 +244,12 @@ fn usable_names_have_a_total_size_of_at_most_128(rt: HostRuntime) -> Result<(), 
         (
             "@guppy\ndef f(t: tuple[",
             63,
+            "]) -> None:\n    u = t\n    for i in range(3):\n        break\n",
+            None,
+        ),
+        (
+            "@guppy\ndef f(t: tuple[",
+            63,
             "]) -> None:\n    u = t\n    t, n = 1, 2\n",
             None,
         ),

@@ -1,0 +1,14 @@
+pub mod Names
+pub mod Environments
+pub mod Rows
+pub mod Binds
+pub mod EndLemmas
+pub mod Joins
+pub mod Blocks
+pub mod BlockViews
+pub mod AssignmentLemmas
+pub mod FunctionLemmas
+pub mod StatementSizes
+pub mod StatementSteps
+pub mod StructTypeLemmas
+pub mod ProgramLemmas

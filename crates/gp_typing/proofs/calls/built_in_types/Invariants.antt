@@ -1,0 +1,7 @@
+use Rattle.std.proofs.Common.{◌≡◌, map, take}
+use Rattle.gp_types.specs.View.{ty_view}
+use Rattle.gp_typing.specs.Expressions as spec
+use Rattle.gp_typing.proofs.calls.built_in_types.Given as goal
+
+abbrev pub invariant-loop-param : goal.invariant-loop-param
+invariant-loop-param l = map ty_view l.made.items ≡ map (λ p. spec.built_in_ty p.ty) (take l.param-index l.params)

@@ -1,0 +1,16 @@
+pub mod Checks
+pub mod Environment
+pub mod Locals
+pub mod Typed
+pub mod Expressions
+pub mod ExpressionView
+pub mod CallView
+pub mod Operations
+pub mod Statements
+pub mod Functions
+pub mod View
+pub mod EnvironmentView
+pub mod StatementView
+pub mod Pieces
+pub mod FunctionView
+pub mod TypedView

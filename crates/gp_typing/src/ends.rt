@@ -1,0 +1,161 @@
+//! What is usable at the ends of statements and blocks.
+
+ghost use Rattle.std.specs.Prelude.{◌≡◌, IfOk, None};
+ghost use Rattle.gp_tree.specs.Expression.{expression};
+ghost use Rattle.gp_typing.specs.EnvironmentView.{environment_view};
+ghost use Rattle.gp_typing.specs.Environment as env;
+ghost use Rattle.gp_typing.specs.Statements as spec;
+ghost use Rattle.gp_typing.specs.StatementView.{reached_view, ends_view, block_view};
+ghost use Rattle.gp_typing.specs.View as view;
+
+use crate::environment::{Environment, is_within, join, keeps};
+use crate::typed::{TypedBlock, TypedStmtKind, TypedStmts};
+use gp_tree::Expr;
+use gp_types::Ty;
+use std::alloc::{AllocError, Global};
+
+/// The environments at a statement's or a block's end, at its `break`s and at its `continue`s, each where a path leads
+/// there.
+#[derive(Drop)]
+pub struct Ends {
+    /// At its end.
+    pub next: Option<Environment>,
+    /// What is usable at each of its `break`s.
+    pub breaks: Option<Environment>,
+    /// What is usable at each of its `continue`s.
+    pub continues: Option<Environment>,
+}
+
+/// A statement with its types, and its ends.
+#[derive(Drop)]
+pub struct StatementTyping {
+    /// The statement.
+    pub kind: TypedStmtKind,
+    /// Its ends.
+    pub ends: Ends,
+}
+
+/// The statements of a block with their types, and the block's ends.
+#[derive(Drop)]
+pub struct BlockTyping {
+    /// The statements in text order.
+    pub stmts: TypedStmts,
+    /// The block's ends.
+    pub ends: Ends,
+}
+
+/// Only the end is reached, in this environment where there is one.
+pub fn goes_on(next: Option<Environment>) -> Ends
+    ensures { ends_view result ≡ spec.goes_on (reached_view next) }
+{
+    Ends {
+        next,
+        breaks: None,
+        continues: None,
+    }
+}
+
+/// What is usable where paths join that may not be reached.
+pub fn join_reached(
+    alloc: Global,
+    first: Option<Environment>,
+    second: Option<Environment>,
+) -> Result<Option<Environment>, AllocError>
+    ensures { IfOk result (λ joined. reached_view joined ≡ env.join_reached (reached_view first) (reached_view second)) }
+{
+    let Some(first) = first else {
+        return Ok(second);
+    };
+    let Some(second) = second else {
+        return Ok(Some(first));
+    };
+    Ok(Some(join(alloc, &first, &second)?))
+}
+
+/// The ends of one block after another.
+pub fn after(alloc: Global, first: Ends, second: Ends) -> Result<Ends, AllocError>
+    ensures { IfOk result (λ ends. ends_view ends ≡ spec.after (ends_view first) (ends_view second)) }
+{
+    let breaks = join_reached(alloc, first.breaks, second.breaks)?;
+    let continues = join_reached(alloc, first.continues, second.continues)?;
+    Ok(Ends {
+        next: second.next,
+        breaks,
+        continues,
+    })
+}
+
+/// The ends of one block or another.
+pub fn one_of(alloc: Global, first: Ends, second: Ends) -> Result<Ends, AllocError>
+    ensures { IfOk result (λ ends. ends_view ends ≡ spec.one_of (ends_view first) (ends_view second)) }
+{
+    let next = join_reached(alloc, first.next, second.next)?;
+    let breaks = join_reached(alloc, first.breaks, second.breaks)?;
+    let continues = join_reached(alloc, first.continues, second.continues)?;
+    Ok(Ends {
+        next,
+        breaks,
+        continues,
+    })
+}
+
+// Whether each usable name has the same type there, where that is reached.
+fn keeps_reached(environment: &[Option<Ty>], there: &Option<Environment>) -> bool
+    ensures { result ≡ env.keeps_reached (environment_view environment.now) (reached_view there.now) }
+{
+    match there {
+        None => true,
+        Some(there) => keeps(environment, there),
+    }
+}
+
+/// Whether each name that is usable at a loop's head has the same type where its body comes back to it.
+pub fn comes_back(environment: &[Option<Ty>], body: &Ends) -> bool
+    ensures { result ≡ spec.comes_back (environment_view environment.now) (ends_view body.now) }
+{
+    keeps_reached(environment, &body.next) && keeps_reached(environment, &body.continues)
+}
+
+/// Whether the types of the usable names have a total size of at most 128, where the place is reached.
+pub fn is_within_reached(there: &Option<Environment>) -> bool
+    ensures { result ≡ env.is_within (reached_view there.now) }
+{
+    match there {
+        None => true,
+        Some(there) => is_within(there),
+    }
+}
+
+// The test `True`, which never ends a loop.
+fn is_true(test: &Expr) -> bool
+    ensures { result ≡ spec.is_true (expression test.now) }
+{
+    matches!(test, Expr::Bool(true))
+}
+
+/// What is usable after a `while` loop: with the test `True` only a `break` leads there.
+#[tactic(auto, using(crate::proofs::EndLemmas::after_while_is))]
+pub fn after_while(
+    alloc: Global,
+    test: &Expr,
+    head: Environment,
+    breaks: Option<Environment>,
+) -> Result<Option<Environment>, AllocError>
+    ensures { IfOk result (λ next. reached_view next
+        ≡ spec.after_while (expression test.now) (environment_view head.items) (reached_view breaks)) }
+{
+    if is_true(test) {
+        return Ok(breaks);
+    }
+    join_reached(alloc, Some(head), breaks)
+}
+
+/// The block without its ends.
+pub fn into_block(stmts: TypedStmts, ends: &Ends) -> TypedBlock
+    ensures { view.block_view result ≡ spec.block_of (block_view (record { stmts = stmts; ends = ends.now })) }
+{
+    TypedBlock {
+        stmts,
+        end_reached: ends.next.is_some(),
+    }
+}

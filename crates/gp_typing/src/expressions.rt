@@ -1,0 +1,117 @@
+//! The types of expressions.
+
+ghost use Rattle.std.specs.Prelude.{drop};
+ghost use Rattle.gp_tree.specs.Expression.{expression, expressions};
+ghost use Rattle.gp_typing.specs.Checks.{Answers};
+ghost use Rattle.gp_typing.specs.EnvironmentView.{environment_view};
+ghost use Rattle.gp_typing.specs.ExpressionView.{value_view, values_view, typed_in, valued_in, values_in};
+ghost use Rattle.gp_typing.specs.Operations.{place_of};
+ghost use Rattle.gp_typing.specs.View.{expression_view};
+
+use crate::calls::{call, count_tags, find_callee, find_tag, takes_tag};
+use crate::context::Context;
+use crate::fault::TypeFault;
+use crate::operators::{
+    binary, boolean_expr, both, choice, either, minus, negation, number_expr, tuple,
+};
+use crate::places::place_type;
+use crate::typed::{TypedExpr, TypedKind};
+use crate::value::{Value, Values, value_of};
+use gp_tree::{Expr, Place};
+use gp_types::{Ty, copy};
+use std::alloc::Global;
+
+/// An expression with its type. Parts are checked from left to right, inner ones first, and a rule of an expression's
+/// own comes after all its parts.
+#[cycle(typing)]
+pub fn type_expr(alloc: Global, context: &Context<'_>, expr: &Expr) -> Result<TypedExpr, TypeFault>
+    ensures { Answers expression_view result (typed_in context.now (expression expr.now)) }
+{
+    let line = context.line;
+    match expr {
+        Expr::Int(number) => Ok(number_expr(number)),
+        Expr::Bool(value) => Ok(boolean_expr(*value)),
+        Expr::Text(_) => Err(TypeFault::Mismatch(line)),
+        Expr::Place(place) => type_place(alloc, context, place),
+        Expr::Neg(operand) => {
+            let operand = type_value(alloc, context, operand)?;
+            minus(alloc, line, operand)
+        }
+        Expr::Not(operand) => {
+            let operand = type_value(alloc, context, operand)?;
+            negation(alloc, line, operand)
+        }
+        Expr::Binary(op, left, right) => {
+            let left = type_value(alloc, context, left)?;
+            let right = type_value(alloc, context, right)?;
+            binary(alloc, line, *op, left, right)
+        }
+        Expr::And(left, right) => {
+            let left = type_value(alloc, context, left)?;
+            let right = type_value(alloc, context, right)?;
+            both(alloc, line, left, right)
+        }
+        Expr::Or(left, right) => {
+            let left = type_value(alloc, context, left)?;
+            let right = type_value(alloc, context, right)?;
+            either(alloc, line, left, right)
+        }
+        Expr::Choice(test, value, other) => {
+            let test = type_value(alloc, context, test)?;
+            let value = type_value(alloc, context, value)?;
+            let other = type_value(alloc, context, other)?;
+            choice(alloc, line, test, value, other)
+        }
+        Expr::Tuple(parts) => {
+            let values = type_values(alloc, context, parts, 0)?;
+            tuple(line, values)
+        }
+        Expr::Call(name, arguments) => match find_callee(context, name.as_str()) {
+            None => Err(TypeFault::UnknownName(line)),
+            Some(callee) => {
+                let tag = find_tag(alloc, line, takes_tag(&callee), arguments)?;
+                let values = type_values(alloc, context, arguments, count_tags(&tag))?;
+                call(alloc, line, name, &callee, tag, values)
+            }
+        },
+    }
+}
+
+/// An expression that stands where a value is needed; one without a type is a `Mismatch`.
+#[cycle(typing)]
+pub fn type_value(alloc: Global, context: &Context<'_>, expr: &Expr) -> Result<Value, TypeFault>
+    ensures { Answers value_view result (valued_in context.now (expression expr.now)) }
+{
+    let typed = type_expr(alloc, context, expr)?;
+    value_of(context.line, typed)
+}
+
+// The expressions from place `first` on, counted from 0, each where a value is needed.
+#[cycle(typing)]
+fn type_values(
+    alloc: Global,
+    context: &Context<'_>,
+    exprs: &[Expr],
+    first: usize,
+) -> Result<Values, TypeFault>
+    ensures { Answers values_view result (values_in context.now (expressions (drop first exprs.now))) }
+{
+    let mut values = Values::new(alloc);
+    for i in first..exprs.len() {
+        let value = type_value(alloc, context, &exprs[i])?;
+        values.push(alloc, value)?;
+    }
+    Ok(values)
+}
+
+fn type_place(alloc: Global, context: &Context<'_>, place: &Place) -> Result<TypedExpr, TypeFault>
+    ensures { Answers expression_view result (place_of context.now.names.now (environment_view context.now.environment.now) context.now.line place.now) }
+{
+    let ty = place_type(context.names, context.environment, context.line, place)?;
+    let ty = copy(alloc, ty)?;
+    let place = place.copy(alloc)?;
+    Ok(TypedExpr {
+        ty: Some(ty),
+        kind: TypedKind::Place(place),
+    })
+}

@@ -1,0 +1,90 @@
+//! What a whole function fixes for its statements.
+
+ghost use Rattle.std.specs.Prelude.{◌≡◌, ◌&&◌, bytes_eq, map};
+ghost use Rattle.gp_tree.specs.Expression.{expression};
+ghost use Rattle.gp_types.specs.Signature.{parameter_view};
+ghost use Rattle.gp_typing.specs.Checks.{Answers};
+ghost use Rattle.gp_typing.specs.EnvironmentView.{environment_view};
+ghost use Rattle.gp_typing.specs.ExpressionView.{value_view};
+ghost use Rattle.gp_typing.specs.Functions.{is_borrowed_among, is_mode_borrowed};
+ghost use Rattle.gp_typing.specs.StatementView.{expression_in, value_in};
+ghost use Rattle.gp_typing.specs.View.{expression_view};
+
+use crate::context::Context;
+use crate::expressions::{type_expr, type_value};
+use crate::fault::TypeFault;
+use crate::locals::Locals;
+use crate::typed::TypedExpr;
+use crate::value::Value;
+use gp_base::LineNo;
+use gp_scope::Scope;
+use gp_tree::Expr;
+use gp_types::{Mode, SigParam, Signature, Ty};
+use std::alloc::Global;
+
+/// What a whole function fixes for its statements.
+#[derive(Drop)]
+pub struct Frame<'a> {
+    /// What the names of the program mean outside of its functions.
+    pub scope: &'a Scope,
+    /// The names of the function.
+    pub names: &'a Locals,
+    /// What the function takes and answers.
+    pub signature: &'a Signature,
+}
+
+/// Whether a name is a parameter that is borrowed. Takes no memory.
+pub fn is_borrowed(params: &[SigParam], name: &str) -> bool
+    ensures { result ≡ is_borrowed_among (map parameter_view params.now) name.now }
+{
+    for param in params {
+        if takes_borrowed(param, name) {
+            return true;
+        }
+    }
+    false
+}
+
+fn takes_borrowed(param: &SigParam, name: &str) -> bool
+    ensures { result ≡ (is_mode_borrowed param.now.mode && bytes_eq param.now.name name.now) }
+{
+    matches!(param.mode, Mode::Borrowed) && param.name.as_str() == name
+}
+
+/// The type of an expression of a statement of this line.
+pub fn expr_in(
+    alloc: Global,
+    frame: &Frame<'_>,
+    environment: &[Option<Ty>],
+    line: LineNo,
+    expr: &Expr,
+) -> Result<TypedExpr, TypeFault>
+    ensures { Answers expression_view result (expression_in frame.now (environment_view environment.now) line (expression expr.now)) }
+{
+    let context = Context {
+        scope: frame.scope,
+        names: frame.names,
+        environment,
+        line,
+    };
+    type_expr(alloc, &context, expr)
+}
+
+/// The same where a value is needed.
+pub fn value_in(
+    alloc: Global,
+    frame: &Frame<'_>,
+    environment: &[Option<Ty>],
+    line: LineNo,
+    expr: &Expr,
+) -> Result<Value, TypeFault>
+    ensures { Answers value_view result (value_in frame.now (environment_view environment.now) line (expression expr.now)) }
+{
+    let context = Context {
+        scope: frame.scope,
+        names: frame.names,
+        environment,
+        line,
+    };
+    type_value(alloc, &context, expr)
+}

@@ -1,0 +1,135 @@
+//! The types of functions.
+
+ghost use Rattle.std.specs.Prelude.{◌≡◌, IfOk, Some, map};
+ghost use Rattle.gp_tree.specs.Program.{function_definition};
+ghost use Rattle.gp_tree.specs.Statement.{statements};
+ghost use Rattle.gp_types.specs.Signature.{parameter_view, signature_view};
+ghost use Rattle.gp_typing.specs.Checks.{Answers};
+ghost use Rattle.gp_typing.specs.EnvironmentView.{environment_view};
+ghost use Rattle.gp_typing.specs.Functions as spec;
+ghost use Rattle.gp_typing.specs.FunctionView.{body_typing};
+ghost use Rattle.gp_scope.specs.ScopeView.{known_in};
+ghost use Rattle.gp_typing.specs.StatementView.{frame_view, known_for};
+ghost use Rattle.gp_typing.specs.View.{block_view, function_view};
+
+use crate::ends::{BlockTyping, into_block};
+use crate::environment::{Environment, is_within, put};
+use crate::fault::TypeFault;
+use crate::frame::Frame;
+use crate::locals::{Locals, locals_of};
+use crate::statements::check_block;
+use crate::typed::{TypedBlock, TypedFunction};
+use gp_base::{LineNo, Sequence};
+use gp_scope::Scope;
+use gp_tree::{Function, Stmt, copy_name};
+use gp_types::{SigParam, SigParams, Signature, Ty, copy};
+use std::alloc::{AllocError, Global};
+
+/// A function with its types. One that the scope doesn't know is an `UnknownName` at its line.
+#[tactic(auto, using(crate::proofs::FunctionLemmas::function_goes))]
+pub fn check_function(
+    alloc: Global,
+    scope: &Scope,
+    function: &Function,
+) -> Result<TypedFunction, TypeFault>
+    ensures { Answers function_view result (spec.function_typing (known_in scope.now) (function_definition function.now)) }
+{
+    let line = function.line;
+    let Some(signature) = scope.signature(function.name.as_str()) else {
+        return Err(TypeFault::UnknownName(line));
+    };
+    let params = signature.params.as_slice();
+    let names = locals_of(alloc, params, &function.body)?;
+    let start = start_of(alloc, &names, params)?;
+    let frame = Frame {
+        scope,
+        names: &names,
+        signature,
+    };
+    let body = check_body(alloc, &frame, line, start, &function.body)?;
+    let signature = copy_signature(alloc, signature)?;
+    let name = copy_name(alloc, &function.name)?;
+    Ok(TypedFunction {
+        line,
+        name,
+        signature,
+        body,
+    })
+}
+
+// The body of a function, from the environment where it begins.
+fn check_body(
+    alloc: Global,
+    frame: &Frame<'_>,
+    line: LineNo,
+    start: Environment,
+    body: &[Stmt],
+) -> Result<TypedBlock, TypeFault>
+    ensures { Answers block_view result (body_typing (known_for frame.now) (frame_view frame.now) line (environment_view start.items) (statements body.now)) }
+{
+    if !is_within(&start) {
+        return Err(TypeFault::TooManyPlaces(line));
+    }
+    let body = check_block(alloc, body, frame, Some(start))?;
+    if frame.signature.result.is_some() && body.ends.next.is_some() {
+        return Err(TypeFault::MissingReturn(line));
+    }
+    let BlockTyping { stmts, ends } = body;
+    Ok(into_block(stmts, &ends))
+}
+
+// What is usable where a function begins: its parameters.
+fn start_of(alloc: Global, names: &Locals, params: &[SigParam]) -> Result<Environment, AllocError>
+    ensures { IfOk result (λ start. environment_view start.items
+        ≡ spec.with_parameters names.now (spec.nothing_usable names.now) (map parameter_view params.now)) }
+{
+    let mut start = nothing_usable(alloc, names)?;
+    for param in params {
+        let ty = copy(alloc, &param.ty)?;
+        put(names, &mut start, param.name.as_str(), ty);
+    }
+    Ok(start)
+}
+
+fn nothing_usable(alloc: Global, names: &Locals) -> Result<Environment, AllocError>
+    ensures { IfOk result (λ made. environment_view made.items ≡ spec.nothing_usable names.now) }
+{
+    let texts = names.as_slice();
+    let mut made: Vec<Option<Ty>> = Vec::new(alloc);
+    for _text in texts {
+        made.push(None)?;
+    }
+    Ok(made)
+}
+
+// The same signature once more.
+fn copy_signature(alloc: Global, signature: &Signature) -> Result<Signature, AllocError>
+    ensures { IfOk result (λ made. signature_view made ≡ signature_view signature.now) }
+{
+    let params = copy_params(alloc, signature.params.as_slice())?;
+    let result = match &signature.result {
+        None => None,
+        Some(ty) => Some(copy(alloc, ty)?),
+    };
+    Ok(Signature { params, result })
+}
+
+fn copy_params(alloc: Global, params: &[SigParam]) -> Result<SigParams, AllocError>
+    ensures { IfOk result (λ made. map parameter_view made ≡ map parameter_view params.now) }
+{
+    let mut made = Sequence::new(alloc);
+    for param in params {
+        made.push(copy_param(alloc, param)?)?;
+    }
+    Ok(made)
+}
+
+fn copy_param(alloc: Global, param: &SigParam) -> Result<SigParam, AllocError>
+    ensures { IfOk result (λ made. parameter_view made ≡ parameter_view param.now) }
+{
+    Ok(SigParam {
+        name: copy_name(alloc, &param.name)?,
+        ty: copy(alloc, &param.ty)?,
+        mode: param.mode,
+    })
+}

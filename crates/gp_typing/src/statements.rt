@@ -1,0 +1,434 @@
+//! The types of statements and blocks.
+
+ghost use Rattle.std.specs.Prelude.{◌≡◌, IfOk, OnOk, map, option_map};
+ghost use Rattle.gp_tree.specs.Expression.{expression, maybe_expression};
+ghost use Rattle.gp_tree.specs.Statement.{statement, statements};
+ghost use Rattle.gp_tree.specs.Statement as stmt;
+ghost use Rattle.gp_tree.specs.TypeExpression.{type_expression};
+ghost use Rattle.gp_types.specs.Types as types;
+ghost use Rattle.gp_types.specs.View.{ty_view};
+ghost use Rattle.gp_typing.specs.Checks.{Answers};
+ghost use Rattle.gp_typing.specs.EnvironmentView.{environment_view};
+ghost use Rattle.gp_typing.specs.Statements as spec;
+ghost use Rattle.gp_typing.specs.StatementView.{block_view, statement_view, frame_view, known_for, reached_view, value_in, statement_in, block_in};
+ghost use Rattle.gp_typing.specs.Pieces.{tested, counted, named, written, ended_annotated, ended_if, ended_while, ended_for, ended_next, append_statements, with_typed, next_of};
+ghost use Rattle.gp_typing.specs.Typed.{behind, no_statements, with_statement};
+ghost use Rattle.gp_typing.specs.View.{expression_view, name_view, statement_kind_view, statements_view};
+
+use crate::assignments::{assign_name, assign_targets};
+use crate::ends::{
+    BlockTyping, Ends, StatementTyping, after, after_while, comes_back, goes_on, into_block,
+    is_within_reached, join_reached, one_of,
+};
+use crate::environment::{Environment, copy_environment, usable};
+use crate::fault::TypeFault;
+use crate::frame::{Frame, expr_in, value_in};
+use crate::operators::{is_bool, is_int};
+use crate::typed::{NameTypes, TypedExpr, TypedStmt, TypedStmtKind, TypedStmts};
+use crate::value::into_expr;
+use gp_base::{LineNo, Name};
+use gp_tree::{Expr, Stmt, Targets, TypeExpr, copy_name};
+use gp_types::{Ty, copy, same_type};
+use std::alloc::{AllocError, Global};
+
+/// A block, from what is usable before it, where a path leads there. A statement that no path reaches is `Unreachable`.
+#[cycle(statements)]
+pub fn check_block(
+    alloc: Global,
+    block: &[Stmt],
+    frame: &Frame<'_>,
+    start: Option<Environment>,
+) -> Result<BlockTyping, TypeFault>
+    ensures { Answers block_view result (block_in frame.now (reached_view start) (statements block.now)) }
+{
+    let mut typed = BlockTyping {
+        stmts: Vec::new(alloc),
+        ends: goes_on(start),
+    };
+    for stmt in block {
+        let line = line_of(stmt);
+        let BlockTyping { stmts, ends } = typed;
+        let Ends {
+            next,
+            breaks,
+            continues,
+        } = ends;
+        let Some(environment) = next else {
+            return Err(TypeFault::Unreachable(line));
+        };
+        let before = usable(alloc, frame.names, &environment)?;
+        let statement = check_statement(alloc, stmt, frame, environment)?;
+        let ends = Ends {
+            next: None,
+            breaks,
+            continues,
+        };
+        typed = add_statement(alloc, line, BlockTyping { stmts, ends }, before, statement)?;
+    }
+    Ok(typed)
+}
+
+// The block with this statement behind it, where the types of the usable names there are within the limit.
+fn add_statement(
+    alloc: Global,
+    line: LineNo,
+    block: BlockTyping,
+    before: NameTypes,
+    typed: StatementTyping,
+) -> Result<BlockTyping, TypeFault>
+    ensures { Answers block_view result (ended_next line (block_view block) (map name_view before) (statement_view typed)) }
+{
+    if !is_within_reached(&typed.ends.next) {
+        return Err(TypeFault::TooManyPlaces(line));
+    }
+    Ok(append(alloc, block, before, typed)?)
+}
+
+fn append(
+    alloc: Global,
+    block: BlockTyping,
+    before: NameTypes,
+    typed: StatementTyping,
+) -> Result<BlockTyping, AllocError>
+    ensures { IfOk result (λ made. block_view made ≡ with_typed (block_view block) (map name_view before) (statement_view typed)) }
+{
+    let StatementTyping { kind, ends } = typed;
+    let BlockTyping {
+        mut stmts,
+        ends: so_far,
+    } = block;
+    append_statement(&mut stmts, before, kind)?;
+    let ends = after(alloc, so_far, ends)?;
+    Ok(BlockTyping { stmts, ends })
+}
+
+#[tactic(auto, using(crate::proofs::BlockViews::statements_view_last))]
+fn append_statement(
+    stmts: &mut TypedStmts,
+    before: NameTypes,
+    kind: TypedStmtKind,
+) -> Result<(), AllocError>
+    ensures { OnOk result (statements_view stmts.new.items
+        ≡ append_statements (statements_view stmts.old.items) (with_statement (behind (map name_view before) (statement_kind_view kind)) no_statements)) }
+{
+    stmts.push(TypedStmt { before, kind })?;
+    Ok(())
+}
+
+// The line of a statement.
+fn line_of(stmt: &Stmt) -> LineNo
+    ensures { result ≡ spec.line_of (statement stmt.now) }
+{
+    match stmt {
+        Stmt::Assign(line, _, _)
+        | Stmt::Annotated(line, _, _, _)
+        | Stmt::Evaluate(line, _)
+        | Stmt::Return(line, _)
+        | Stmt::If(line, _, _, _)
+        | Stmt::While(line, _, _)
+        | Stmt::For(line, _, _, _)
+        | Stmt::Break(line)
+        | Stmt::Continue(line)
+        | Stmt::Pass(line) => *line,
+    }
+}
+
+// A statement, in the environment before it.
+#[cycle(statements)]
+fn check_statement(
+    alloc: Global,
+    stmt: &Stmt,
+    frame: &Frame<'_>,
+    environment: Environment,
+) -> Result<StatementTyping, TypeFault>
+    ensures { Answers statement_view result (statement_in frame.now (environment_view environment.items) (statement stmt.now)) }
+{
+    match stmt {
+        Stmt::Assign(line, targets, value) => {
+            check_assign(alloc, frame, environment, *line, targets, value)
+        }
+        Stmt::Annotated(line, name, written, value) => {
+            check_annotated(alloc, frame, environment, *line, name, written, value)
+        }
+        Stmt::Evaluate(line, value) => check_evaluate(alloc, frame, environment, *line, value),
+        Stmt::Return(line, value) => check_return(alloc, frame, &environment, *line, value),
+        Stmt::If(line, test, body, other) => {
+            let test = check_test(alloc, frame, &environment, *line, test)?;
+            let inside = copy_environment(alloc, &environment)?;
+            let body = check_block(alloc, body, frame, Some(inside))?;
+            let other = check_block(alloc, other, frame, Some(environment))?;
+            end_if(alloc, *line, test, body, other)
+        }
+        Stmt::While(line, test, body) => {
+            let typed = check_test(alloc, frame, &environment, *line, test)?;
+            let inside = copy_environment(alloc, &environment)?;
+            let body = check_block(alloc, body, frame, Some(inside))?;
+            end_while(alloc, *line, test, typed, environment, body)
+        }
+        Stmt::For(line, name, count, body) => {
+            let count = check_count(alloc, frame, &environment, *line, count)?;
+            let inside = check_counting(alloc, frame, &environment, *line, name)?;
+            let body = check_block(alloc, body, frame, Some(inside))?;
+            end_for(alloc, *line, name, count, environment, body)
+        }
+        Stmt::Break(line) => Ok(StatementTyping {
+            kind: TypedStmtKind::Break(*line),
+            ends: Ends {
+                next: None,
+                breaks: Some(environment),
+                continues: None,
+            },
+        }),
+        Stmt::Continue(line) => Ok(StatementTyping {
+            kind: TypedStmtKind::Continue(*line),
+            ends: Ends {
+                next: None,
+                breaks: None,
+                continues: Some(environment),
+            },
+        }),
+        Stmt::Pass(line) => Ok(StatementTyping {
+            kind: TypedStmtKind::Pass(*line),
+            ends: goes_on(Some(environment)),
+        }),
+    }
+}
+
+// `targets = value`: the value, then the targets.
+fn check_assign(
+    alloc: Global,
+    frame: &Frame<'_>,
+    mut environment: Environment,
+    line: LineNo,
+    targets: &Targets,
+    value: &Expr,
+) -> Result<StatementTyping, TypeFault>
+    ensures { Answers statement_view result
+        (statement_in frame.now (environment_view environment.items) (stmt.assign line targets.now (expression value.now))) }
+{
+    let value = value_in(alloc, frame, &environment, line, value)?;
+    assign_targets(alloc, frame, &mut environment, line, targets, &value.ty)?;
+    let targets = targets.copy(alloc)?;
+    Ok(StatementTyping {
+        kind: TypedStmtKind::Assign(line, targets, into_expr(value)),
+        ends: goes_on(Some(environment)),
+    })
+}
+
+// `name: type = value`: the value, the written type, then the name.
+fn check_annotated(
+    alloc: Global,
+    frame: &Frame<'_>,
+    mut environment: Environment,
+    line: LineNo,
+    name: &Name,
+    written: &TypeExpr,
+    value: &Expr,
+) -> Result<StatementTyping, TypeFault>
+    ensures { Answers statement_view result
+        (ended_annotated (known_for frame.now) (frame_view frame.now) (environment_view environment.items) line name.now (type_expression written.now)
+        (value_in frame.now (environment_view environment.items) line (expression value.now))) }
+{
+    let value = value_in(alloc, frame, &environment, line, value)?;
+    check_written(frame, line, &value.ty)?;
+    let ty = copy(alloc, &value.ty)?;
+    assign_name(frame, &mut environment, line, name.as_str(), ty)?;
+    let name = copy_name(alloc, name)?;
+    let written = written.copy(alloc)?;
+    Ok(StatementTyping {
+        kind: TypedStmtKind::Annotated(line, name, written, into_expr(value)),
+        ends: goes_on(Some(environment)),
+    })
+}
+
+// The type that is written on this line is this one.
+fn check_written(frame: &Frame<'_>, line: LineNo, ty: &Ty) -> Result<(), TypeFault>
+    ensures { Answers (λ _. tt) result (written (known_for frame.now) line (ty_view ty.now)) }
+{
+    match frame.scope.annotated(line) {
+        Some(written) if same_type(written, ty) => Ok(()),
+        _ => Err(TypeFault::Mismatch(line)),
+    }
+}
+
+// An expression alone, which may answer nothing.
+fn check_evaluate(
+    alloc: Global,
+    frame: &Frame<'_>,
+    environment: Environment,
+    line: LineNo,
+    value: &Expr,
+) -> Result<StatementTyping, TypeFault>
+    ensures { Answers statement_view result
+        (statement_in frame.now (environment_view environment.items) (stmt.evaluate line (expression value.now))) }
+{
+    let value = expr_in(alloc, frame, &environment, line, value)?;
+    Ok(StatementTyping {
+        kind: TypedStmtKind::Evaluate(line, value),
+        ends: goes_on(Some(environment)),
+    })
+}
+
+// `return`, with its value where there is one.
+fn check_return(
+    alloc: Global,
+    frame: &Frame<'_>,
+    environment: &[Option<Ty>],
+    line: LineNo,
+    value: &Option<Expr>,
+) -> Result<StatementTyping, TypeFault>
+    ensures { Answers statement_view result
+        (statement_in frame.now (environment_view environment.now) (stmt.return_value line (maybe_expression value.now))) }
+{
+    let kind = match value {
+        None => {
+            if frame.signature.result.is_some() {
+                return Err(TypeFault::Mismatch(line));
+            }
+            TypedStmtKind::Return(line, None)
+        }
+        Some(value) => {
+            let value = value_in(alloc, frame, environment, line, value)?;
+            if !is_result(&frame.signature.result, &value.ty) {
+                return Err(TypeFault::Mismatch(line));
+            }
+            TypedStmtKind::Return(line, Some(into_expr(value)))
+        }
+    };
+    Ok(StatementTyping {
+        kind,
+        ends: goes_on(None),
+    })
+}
+
+// Whether a function with this result may return a value of this type.
+fn is_result(result_ty: &Option<Ty>, ty: &Ty) -> bool
+    ensures { result ≡ spec.is_result (option_map ty_view result_ty.now) (ty_view ty.now) }
+{
+    match result_ty {
+        None => false,
+        Some(result_ty) => same_type(result_ty, ty),
+    }
+}
+
+// A test: a truth value.
+fn check_test(
+    alloc: Global,
+    frame: &Frame<'_>,
+    environment: &[Option<Ty>],
+    line: LineNo,
+    test: &Expr,
+) -> Result<TypedExpr, TypeFault>
+    ensures { Answers expression_view result (tested line (value_in frame.now (environment_view environment.now) line (expression test.now))) }
+{
+    let test = value_in(alloc, frame, environment, line, test)?;
+    if !is_bool(&test.ty) {
+        return Err(TypeFault::Mismatch(line));
+    }
+    Ok(into_expr(test))
+}
+
+// A count: a whole number.
+fn check_count(
+    alloc: Global,
+    frame: &Frame<'_>,
+    environment: &[Option<Ty>],
+    line: LineNo,
+    count: &Expr,
+) -> Result<TypedExpr, TypeFault>
+    ensures { Answers expression_view result (counted line (value_in frame.now (environment_view environment.now) line (expression count.now))) }
+{
+    let count = value_in(alloc, frame, environment, line, count)?;
+    if !is_int(&count.ty) {
+        return Err(TypeFault::Mismatch(line));
+    }
+    Ok(into_expr(count))
+}
+
+// The environment in the body of a `for` loop.
+fn check_counting(
+    alloc: Global,
+    frame: &Frame<'_>,
+    environment: &[Option<Ty>],
+    line: LineNo,
+    name: &Name,
+) -> Result<Environment, TypeFault>
+    ensures { Answers (λ inside. environment_view inside.items) result (named (frame_view frame.now) (environment_view environment.now) line name.now types.Int) }
+{
+    let mut inside = copy_environment(alloc, environment)?;
+    assign_name(frame, &mut inside, line, name.as_str(), Ty::Int)?;
+    Ok(inside)
+}
+
+// `if` with its test and its blocks.
+fn end_if(
+    alloc: Global,
+    line: LineNo,
+    test: TypedExpr,
+    body: BlockTyping,
+    other: BlockTyping,
+) -> Result<StatementTyping, TypeFault>
+    ensures { Answers statement_view result (ended_if line (expression_view test) (block_view body) (block_view other)) }
+{
+    let BlockTyping { stmts, ends } = body;
+    let body = into_block(stmts, &ends);
+    let BlockTyping {
+        stmts,
+        ends: other_ends,
+    } = other;
+    let other = into_block(stmts, &other_ends);
+    let ends = one_of(alloc, ends, other_ends)?;
+    Ok(StatementTyping {
+        kind: TypedStmtKind::If(line, test, body, other),
+        ends,
+    })
+}
+
+// `while` with its test, the environment at its head and its body.
+fn end_while(
+    alloc: Global,
+    line: LineNo,
+    written: &Expr,
+    test: TypedExpr,
+    head: Environment,
+    body: BlockTyping,
+) -> Result<StatementTyping, TypeFault>
+    ensures { Answers statement_view result
+        (ended_while line (expression written.now) (expression_view test) (environment_view head.items) (block_view body)) }
+{
+    if !comes_back(&head, &body.ends) {
+        return Err(TypeFault::LoopChangesType(line));
+    }
+    let BlockTyping { stmts, ends } = body;
+    let block = into_block(stmts, &ends);
+    let next = after_while(alloc, written, head, ends.breaks)?;
+    Ok(StatementTyping {
+        kind: TypedStmtKind::While(line, test, block),
+        ends: goes_on(next),
+    })
+}
+
+// `for` with its name, its count, the environment at its head and its body.
+fn end_for(
+    alloc: Global,
+    line: LineNo,
+    name: &Name,
+    count: TypedExpr,
+    head: Environment,
+    body: BlockTyping,
+) -> Result<StatementTyping, TypeFault>
+    ensures { Answers statement_view result
+        (ended_for line name.now (expression_view count) (environment_view head.items) (block_view body)) }
+{
+    if !comes_back(&head, &body.ends) {
+        return Err(TypeFault::LoopChangesType(line));
+    }
+    let BlockTyping { stmts, ends } = body;
+    let block = into_block(stmts, &ends);
+    let name = copy_name(alloc, name)?;
+    let next = join_reached(alloc, Some(head), ends.breaks)?;
+    Ok(StatementTyping {
+        kind: TypedStmtKind::For(line, name, count, block),
+        ends: goes_on(next),
+    })
+}

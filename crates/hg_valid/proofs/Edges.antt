@@ -1,10 +1,10 @@
 -- Value links and order links as lists of successors.
-use Rattle.std.proofs.Common.{◌≡◌, ◌≢◌, ◌⊎◌, inl, inr, ⊎_elim, ℕ, zero, suc, ◌+◌, ◌<◌, ◌≤◌, List, [], ◌∷◌, ◌++◌, length, get_or, set, replicate, Option, Some, None, sym, ap, subst, refl, ◌∙◌, arith}
+use Rattle.std.proofs.Common.{◌≡◌, ◌≢◌, ◌⊎◌, inl, inr, ⊎_elim, ℕ, zero, suc, ◌+◌, ◌<◌, ◌≤◌, List, [], ◌∷◌, ◌++◌, length, set, replicate, Option, Some, None, sym, ap, subst, refl, ◌∙◌, arith}
 use Rattle.std.specs.Prelude.{slice_get}
 use Rattle.std.proofs.lemmas.Bool.{cases_eq, cases_lt}
 use Rattle.std.proofs.lemmas.List.{length-set, get_or-set_same, get_or-set_other, length-replicate, get_or-replicate, get_or_past}
 use Rattle.hg_ops.specs.Op.{ins_of}
-use Rattle.hg_graph.specs.Graph.{Graph, Link, Port, Ports, Order, In, IsGraph, LinkIsWithin, op_at}
+use Rattle.hg_graph.specs.Graph.{Graph, Link, Ports, Order, In, IsGraph, LinkIsWithin, op_at}
 use Rattle.hg_graph.specs.Valid.{Edge, along_value, along_order, Path, edge, joined}
 use Rattle.hg_laws.proofs.Children.{get_in}
 use Rattle.hg_valid.specs.Walks.{row, Leads, Walk, once, first, IsClosed}

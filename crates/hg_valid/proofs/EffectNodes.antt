@@ -1,9 +1,9 @@
 -- Effect nodes and their marks.
-use Rattle.std.proofs.Common.{◌≡◌, ◌≢◌, ◌⊎◌, inl, inr, ⊎_elim, ℕ, zero, suc, ◌+◌, ◌-◌, ◌<◌, ◌≤◌, Bool, true, false, List, [], ◌∷◌, length, get_or, set, sym, ap, subst, refl, ◌∙◌, arith}
+use Rattle.std.proofs.Common.{◌≡◌, ◌≢◌, inl, inr, ℕ, suc, ◌<◌, ◌≤◌, Bool, true, false, List, length, set, sym, ap, subst, refl, ◌∙◌, arith}
 use Rattle.std.proofs.lemmas.Bool.{cases_eq, cases_lt, false≢true}
 use Rattle.std.proofs.lemmas.List.{length-set, get_or-set_same, get_or-set_other, get_or_past}
 use Rattle.hg_ops.specs.Op.{is_effect}
-use Rattle.hg_graph.specs.Graph.{Graph, In, op_at, parent_at, children}
+use Rattle.hg_graph.specs.Graph.{Graph, op_at, parent_at}
 use Rattle.hg_graph.specs.Ordered.{HasEffect, own, inside}
 use Rattle.hg_laws.proofs.Children.{child_is, is_child}
 use Rattle.hg_valid.specs.Chains.{is_marked}

@@ -1,15 +1,14 @@
 -- The nodes that walks from a node lead to.
-use Rattle.std.proofs.Common.{◌≡◌, ◌≢◌, ◌⊎◌, inl, inr, ⊎_elim, ℕ, zero, suc, ◌+◌, ◌-◌, ◌<◌, ◌≤◌, Bool, true, false, cond, List, [], ◌∷◌, ◌++◌, length, get_or, set, replicate, sym, ap, subst, refl, ◌∙◌, arith}
+use Rattle.std.proofs.Common.{◌≡◌, ◌≢◌, ◌⊎◌, inl, inr, ℕ, ◌+◌, ◌<◌, ◌≤◌, Bool, true, false, cond, List, [], ◌∷◌, ◌++◌, length, get_or, set, replicate, sym, ap, subst, refl, ◌∙◌, arith}
 use Rattle.std.specs.Prelude.{count_by, MatchBool, MatchOption, Option, Some, None, is_some, ◌*◌}
-use Rattle.std.proofs.lemmas.Bool.{cases_eq, cases_lt, cases_Bool, false≢true}
+use Rattle.std.proofs.lemmas.Bool.{cases_eq, cases_lt, false≢true}
 use Rattle.std.proofs.lemmas.List.{length-set, get_or-set_same, get_or-set_other, get_or_append_left, get_or_push, length_push, length-replicate, get_or-replicate, get_or_past}
 use Rattle.std.proofs.lemmas.List.Sums.{sum_by-set, count_by-le-length}
 use Rattle.std.proofs.lemmas.List.Folds.{sum_by-replicate}
-use Rattle.hg_graph.specs.Graph.{In}
-use Rattle.hg_valid.specs.Walks.{row, Leads, Walk, once, first, IsClosed}
+use Rattle.hg_valid.specs.Walks.{Leads, Walk, once, first, IsClosed}
 use Rattle.hg_valid.specs.Chains.{is_marked, mark, AreCounted, HasCycle}
-use Rattle.hg_valid.specs.Reach.{IsReach, HasGrown, HasFollowed, IsFirstBack, NoneBack}
-use Rattle.hg_valid.proofs.Searches.{place_in, in_place, walk_on}
+use Rattle.hg_valid.specs.Reach.{IsReach, HasGrown, NoneBack}
+use Rattle.hg_valid.proofs.Searches.{walk_on}
 
 abbrev one_if : Bool → ℕ
 one_if b = cond b 1 0

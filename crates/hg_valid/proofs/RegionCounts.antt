@@ -1,23 +1,23 @@
 -- Whether effect nodes have different counts, region by region, and what follows.
-use Rattle.std.proofs.Common.{◌≡◌, ◌≢◌, ◌⊎◌, inl, inr, ⊎_elim, ℕ, zero, suc, ◌+◌, ◌-◌, ◌<◌, ◌≤◌, Bool, true, false, cond, List, [], ◌∷◌, length, get_or, set, Option, Some, None, sym, ap, subst, refl, ◌∙◌, arith}
+use Rattle.std.proofs.Common.{◌≡◌, ◌≢◌, inl, inr, ⊎_elim, ℕ, zero, suc, ◌+◌, ◌-◌, ◌<◌, ◌≤◌, Bool, true, false, cond, List, [], ◌∷◌, length, get_or, set, Some, sym, ap, subst, refl, ◌∙◌, arith}
 use Rattle.std.specs.Prelude.{slice_get, IsTrue, MatchBool, ◌↔◌, Result, Ok, Err, IfOk}
 use Rattle.std.specs.Bool.{OnTrue}
 use Rattle.std.proofs.lemmas.Bool.{cases_eq, cases_lt, false≢true}
-use Rattle.std.proofs.lemmas.List.{length-set, get_or-set_same, get_or-set_other, get_or_past}
+use Rattle.std.proofs.lemmas.List.{get_or-set_same, get_or-set_other, get_or_past}
 use Rattle.hg_ops.specs.Op as op
 use Rattle.hg_ops.specs.Op.{Op, is_effect, is_dataflow_container, fires}
-use Rattle.hg_graph.specs.Graph.{Graph, In, op_at, parent_at, children, firing_children}
+use Rattle.hg_graph.specs.Graph.{Graph, In, op_at, parent_at, children}
 use Rattle.hg_graph.specs.Ordered.{HasEffect, own, inside, IsOrdered}
-use Rattle.hg_graph.specs.Valid.{IsValid, Path, edge, joined, Edge, along_value, along_order, Places, Children, SameParent, NoCycle, may_stand_in}
+use Rattle.hg_graph.specs.Valid.{IsValid, Path, edge, joined, Edge, may_stand_in}
 use Rattle.hg_laws.proofs.Lists.{Distinct, Distinct-filter, Distinct-numbers}
 use Rattle.hg_laws.proofs.Known.{Known, known}
 use Rattle.hg_laws.proofs.Wires.{edge_cases}
 use Rattle.hg_laws.proofs.Main.{picks_change_nothing_lem}
-use Rattle.hg_laws.proofs.Children.{child_is, is_child, kid_is, is_kid, get_in}
-use Rattle.hg_valid.specs.Walks.{row, Leads, Walk, once, first, IsClosed}
+use Rattle.hg_laws.proofs.Children.{child_is, is_child, kid_is, is_kid}
+use Rattle.hg_valid.specs.Walks.{Walk, once, first, IsClosed}
 use Rattle.hg_valid.specs.Successors.{AreSuccessors}
 use Rattle.hg_valid.specs.Effects.{AreEffects}
-use Rattle.hg_valid.specs.Chains.{is_marked, mark, AreCounted, IsCounted, HasCycle}
+use Rattle.hg_valid.specs.Chains.{is_marked, mark, AreCounted, HasCycle}
 use Rattle.hg_valid.specs.SameRuns.{RunsAreSame}
 use Rattle.hg_valid.specs.Regions.{AreApart, HaveSame, HasSame, ApartBelow, IsSeen, child_at}
 use Rattle.hg_valid.proofs.Searches.{place_in, in_place, walk_on}

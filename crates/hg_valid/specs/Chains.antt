@@ -1,6 +1,5 @@
 -- The greatest number of marked nodes on a walk from each node, and a search for it.
 use Rattle.std.specs.Prelude.{◌≡◌, ◌≢◌, ◌⊎◌, ℕ, suc, ◌+◌, ◌-◌, sum, ◌<◌, ◌≤◌, ◌==◌, Bool, true, false, List, [], length, slice_index, slice_index_or, count_by, if◌then◌else◌}
-use Rattle.hg_graph.specs.Graph.{In}
 use Rattle.hg_valid.specs.Walks.{row, Leads, Walk}
 
 abbrev pub is_marked : List Bool → ℕ → Bool

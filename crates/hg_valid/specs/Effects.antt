@@ -1,5 +1,5 @@
 -- Which nodes are effect nodes.
-use Rattle.std.specs.Prelude.{◌≡◌, ◌↔◌, ℕ, ◌<◌, ◌≤◌, Bool, true, List, length}
+use Rattle.std.specs.Prelude.{◌≡◌, ℕ, ◌<◌, ◌≤◌, Bool, true, List, length}
 use Rattle.hg_ops.specs.Op.{is_effect}
 use Rattle.hg_graph.specs.Graph.{Graph, op_at, parent_at}
 use Rattle.hg_graph.specs.Ordered.{HasEffect}

@@ -1,5 +1,5 @@
 -- The nodes that walks from a node lead to, and the least node to which one leads back.
-use Rattle.std.specs.Prelude.{◌≡◌, ◌⊎◌, ℕ, ◌<◌, ◌≤◌, Bool, true, List, length, slice_index, count_by}
+use Rattle.std.specs.Prelude.{◌≡◌, ℕ, ◌<◌, ◌≤◌, Bool, true, List, length, slice_index, count_by}
 use Rattle.hg_valid.specs.Walks.{Leads, Walk}
 use Rattle.hg_valid.specs.Chains.{is_marked}
 

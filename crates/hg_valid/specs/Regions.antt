@@ -1,5 +1,5 @@
 -- Whether the effect nodes of a region have different counts.
-use Rattle.std.specs.Prelude.{◌≡◌, ◌≢◌, ℕ, suc, ◌+◌, ◌<◌, ◌≤◌, Bool, true, List, length, slice_index, vec_len}
+use Rattle.std.specs.Prelude.{◌≡◌, ◌≢◌, ℕ, ◌+◌, ◌<◌, ◌≤◌, Bool, true, List, slice_index}
 use Rattle.hg_ops.specs.Op.{is_dataflow_container}
 use Rattle.hg_graph.specs.Graph.{Graph, In, op_at, children}
 use Rattle.hg_valid.specs.Chains.{is_marked}

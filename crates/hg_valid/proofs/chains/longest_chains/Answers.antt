@@ -1,4 +1,4 @@
-use Rattle.std.proofs.Common.{◌<◌, arith, length}
+use Rattle.std.proofs.Common.{arith}
 use Rattle.hg_valid.proofs.Searches.{search_starts, all_counted}
 use Rattle.hg_valid.proofs.chains.longest_chains.Goals as goal
 

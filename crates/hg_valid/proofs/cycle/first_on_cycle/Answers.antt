@@ -1,5 +1,4 @@
 use Rattle.std.proofs.Common.{◌≡◌, ◌<◌, ℕ, List, length, sym, subst, arith}
-use Rattle.hg_valid.specs.Walks.{IsClosed}
 use Rattle.hg_valid.specs.Successors.{AreSuccessors}
 use Rattle.hg_valid.specs.Reach.{IsFirstBack, NoneBack}
 use Rattle.hg_valid.proofs.Edges.{closed_successors, path_of, walk_of}

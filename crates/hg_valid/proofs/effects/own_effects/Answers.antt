@@ -1,4 +1,4 @@
-use Rattle.std.proofs.Common.{◌≡◌, ◌<◌, ℕ, length, ◌∙◌, sym, ap, inl, inr, arith, false, rules}
+use Rattle.std.proofs.Common.{◌∙◌, sym, ap, inl, inr, arith, false, rules}
 use Rattle.std.proofs.lemmas.Bool.{cases_eq}
 use Rattle.std.proofs.lemmas.List.{get_or_push, get_or_append_left}
 use Rattle.hg_ops.specs.Op.{is_effect}

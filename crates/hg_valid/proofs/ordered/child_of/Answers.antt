@@ -1,9 +1,7 @@
-use Rattle.std.proofs.Common.{◌≡◌, ◌<◌, ℕ, List, length, sym, ap, subst, Option, Some, ◌∙◌, arith}
-use Rattle.std.specs.Prelude.{slice_get}
+use Rattle.std.proofs.Common.{◌<◌, ℕ, length, sym, ap, subst, ◌∙◌}
 use Rattle.std.specs.Option.{option_map}
 use Rattle.hg_graph.specs.Graph.{children}
 use Rattle.hg_graph.specs.View.{number_of}
-use Rattle.hg_valid.specs.Regions.{child_at}
 use Rattle.hg_valid.proofs.Edges.{got_some}
 use Rattle.hg_valid.proofs.RegionCounts.{got_at, child_within}
 use Rattle.hg_valid.proofs.ordered.child_of.Goals as goal

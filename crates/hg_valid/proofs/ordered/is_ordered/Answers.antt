@@ -1,9 +1,9 @@
-use Rattle.std.proofs.Common.{◌≡◌, ◌<◌, ℕ, List, Bool, length, sym, ap, subst, ◌∙◌, arith}
+use Rattle.std.proofs.Common.{ℕ, List, sym, subst}
 use Rattle.hg_graph.specs.Valid.{IsValid, Places}
 use Rattle.hg_valid.specs.Walks.{IsClosed}
 use Rattle.hg_valid.specs.Chains.{HasCycle}
 use Rattle.hg_valid.proofs.Edges.{closed_successors}
-use Rattle.hg_valid.proofs.RegionCounts.{HasTested, tested_order, tested_runs, no_cycle, few_counts}
+use Rattle.hg_valid.proofs.RegionCounts.{HasTested, tested_order, tested_runs, no_cycle}
 use Rattle.hg_valid.proofs.ordered.is_ordered.Goals as goal
 
 pub effects_of-requires-clause-others : goal.effects_of-requires-clause-others

@@ -1,4 +1,4 @@
-use Rattle.std.proofs.Common.{◌≡◌, ℕ, List, Vec, Global, length, replicate, true, sym, ◌∙◌}
+use Rattle.std.proofs.Common.{ℕ, Vec, Global, ◌∙◌}
 use Rattle.hg_valid.proofs.Reached.{counted_back}
 use Rattle.hg_valid.proofs.reach.first_back.Goals as goal
 

@@ -1,8 +1,7 @@
-use Rattle.std.proofs.Common.{◌≡◌, ◌<◌, ◌≤◌, ℕ, List, length, get_or, subst, sym, arith, false, true, ◌∙◌, ap}
+use Rattle.std.proofs.Common.{◌≡◌, ◌<◌, ℕ, length, get_or, subst, sym, arith, false}
 use Rattle.std.proofs.lemmas.List.{get_or_read}
-use Rattle.hg_valid.specs.Chains.{is_marked}
 use Rattle.hg_valid.specs.Reach.{IsReach}
-use Rattle.hg_valid.proofs.Reached.{few_reached, tells_back, reached_in}
+use Rattle.hg_valid.proofs.Reached.{tells_back, reached_in}
 use Rattle.hg_valid.proofs.reach.leads_back.Goals as goal
 
 pub follow-requires-in-loop-k-clause-node_in : goal.follow-requires-in-loop-k-clause-node_in

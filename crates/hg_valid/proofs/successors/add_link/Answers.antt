@@ -1,8 +1,7 @@
-use Rattle.std.proofs.Common.{◌≡◌, ◌<◌, ℕ, length, refl, sym, ap, subst, Option, Some, ◌∙◌, arith}
-use Rattle.std.specs.Prelude.{slice_get}
+use Rattle.std.proofs.Common.{◌≡◌, ◌<◌, length, refl, sym, ap, Some, ◌∙◌, arith}
 use Rattle.std.specs.Option.{option_map}
 use Rattle.hg_ops.specs.Op.{ins_of}
-use Rattle.hg_graph.specs.Graph.{Link, Ports, Order, op_at}
+use Rattle.hg_graph.specs.Graph.{Ports, Order, op_at}
 use Rattle.hg_graph.specs.View.{port_view, link_view}
 use Rattle.hg_valid.proofs.Edges.{got_some, ports_join, link_within, edge_added}
 use Rattle.hg_valid.proofs.successors.add_link.Goals as goal

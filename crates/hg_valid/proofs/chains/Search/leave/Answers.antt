@@ -1,7 +1,7 @@
-use Rattle.std.proofs.Common.{◌≡◌, ◌-◌, take, vec_len, ◌+◌, ◌<◌, ℕ, List, Bool, length, get_or, refl, sym, ap, ◌∙◌, cond, true, false, arith}
+use Rattle.std.proofs.Common.{◌≡◌, ◌-◌, take, vec_len, ◌+◌, ◌<◌, ℕ, length, ap, ◌∙◌, cond, true, false, arith}
 use Rattle.hg_valid.specs.Walks.{row}
 use Rattle.hg_valid.specs.Chains.{mark, is_marked}
-use Rattle.hg_valid.proofs.Searches.{IsGreatest, last_is_open, row_read, rows_in, best_below, gone_left, greatest_of}
+use Rattle.hg_valid.proofs.Searches.{last_is_open, row_read, rows_in, best_below, gone_left, greatest_of}
 use Rattle.hg_valid.proofs.chains.Search.leave.Goals as goal
 use Rattle.hg_valid.proofs.chains.Search.leave.Goals.{then-marks-node, else-marks-node}
 

@@ -1,9 +1,9 @@
-use Rattle.std.proofs.Common.{◌≡◌, ◌+◌, ◌<◌, ◌≤◌, ℕ, List, inl, inr, length, get_or, sym, ap, subst, ◌∙◌, arith}
+use Rattle.std.proofs.Common.{◌≡◌, ◌+◌, ◌<◌, ◌≤◌, ℕ, length, get_or, sym, ap, subst, ◌∙◌, arith}
 use Rattle.std.proofs.lemmas.List.{get_or_read}
 use Rattle.hg_valid.specs.Walks.{row}
 use Rattle.hg_valid.specs.Chains.{IsSearch}
 use Rattle.hg_valid.specs.declared.chains.Search.{Search}
-use Rattle.hg_valid.proofs.Searches.{none_open, root_entered}
+use Rattle.hg_valid.proofs.Searches.{root_entered}
 use Rattle.hg_valid.proofs.chains.Search.run.Goals as goal
 use Rattle.hg_valid.proofs.chains.Search.run.Goals.{then-index-gt0+in_ok-enter, else-index-gt0}
 

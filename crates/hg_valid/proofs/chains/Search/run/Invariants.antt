@@ -1,4 +1,4 @@
-use Rattle.std.proofs.Common.{◌≡◌, ℕ, ◌+◌, ◌≤◌, length, slice_index, sum}
+use Rattle.std.proofs.Common.{ℕ, ◌+◌, ◌≤◌, length, slice_index, sum}
 use Rattle.hg_valid.specs.Walks.{row}
 use Rattle.hg_valid.specs.Chains.{IsSearch}
 use Rattle.hg_valid.proofs.chains.Search.run.Given as goal

@@ -1,4 +1,4 @@
-use Rattle.std.proofs.Common.{◌≡◌, ◌<◌, ℕ, length, slice_index, true}
+use Rattle.std.proofs.Common.{◌≡◌, ◌<◌, ℕ, slice_index, true}
 use Rattle.hg_valid.specs.Chains.{is_marked}
 use Rattle.hg_valid.specs.Reach.{IsReach, HasGrown}
 use Rattle.hg_valid.proofs.reach.Reach.follow.Given as goal

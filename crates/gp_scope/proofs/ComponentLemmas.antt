@@ -1,10 +1,10 @@
 -- Where no struct has a number below that of a name that it holds, one with a number above all of them is on no cycle.
-use Rattle.std.proofs.Common.{◌≡◌, ℕ, ◌-◌, ◌<◌, ◌≤◌, Bool, true, false, cond, ◌&&◌, List, [], ◌∷◌, Option, Some, None, refl, sym, ap, subst, ◌∙◌, true≢false, bytes_eq, find, nat_lt, nat_le, arith}
+use Rattle.std.proofs.Common.{◌≡◌, ℕ, ◌-◌, ◌<◌, ◌≤◌, Bool, true, false, cond, List, [], ◌∷◌, Some, None, refl, sym, ap, subst, ◌∙◌, bytes_eq, find, nat_lt, nat_le, arith}
 use Rattle.std.specs.List.{list_all}
 use Rattle.std.proofs.lemmas.Slice.Eq.{bytes_eq-Decides}
 use Rattle.std.proofs.lemmas.Bool.Decides.{nat_tests}
 use Rattle.gp_tree.specs.Program.{ProgramItem, StructDefinition}
-use Rattle.gp_scope.specs.Definitions.{struct_named, structs_in}
+use Rattle.gp_scope.specs.Definitions.{structs_in}
 use Rattle.gp_scope.specs.Cycles.{holds, IsWay, IsOnCycle}
 use Rattle.gp_scope.specs.EachName.{each_field_name}
 use Rattle.gp_scope.specs.Components.{held_within, are_ordered, is_above_held}

@@ -2,7 +2,7 @@
 use Rattle.std.proofs.Common.{◌≡◌, List, ap, ◌∙◌}
 use Rattle.gp_tree.specs.Program.{ProgramItem}
 use Rattle.gp_scope.specs.declared.scope.Scope.{Scope}
-use Rattle.gp_scope.specs.Known.{Known, known_of}
+use Rattle.gp_scope.specs.Known.{known_of}
 use Rattle.gp_scope.specs.ScopeView.{known_in, IsScopeOf}
 
 same_by : {A B : Type 0} (f g : A → B) → ((x : A) → f x ≡ g x) → f ≡ g

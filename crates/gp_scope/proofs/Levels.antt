@@ -1,12 +1,12 @@
 -- Sizes by level against the sizes of spelled types, and structs that are open at a level.
-use Rattle.std.proofs.Common.{◌≡◌, ◌≢◌, ℕ, zero, suc, ◌+◌, ◌<◌, ◌≤◌, Bool, true, false, ◌&&◌, ◌||◌, cond, List, [], ◌∷◌, length, Option, Some, None, min, refl, sym, ap, ap₂, subst, ◌∙◌, true≢false, bytes_eq, codes, arith, if◌then◌else◌}
+use Rattle.std.proofs.Common.{◌≡◌, ℕ, zero, suc, ◌≤◌, Bool, true, false, ◌&&◌, List, [], ◌∷◌, Option, Some, None, min, refl, sym, ap, ap₂, ◌∙◌, true≢false, bytes_eq, codes, arith, if◌then◌else◌}
 use Rattle.gp_tree.specs.Program.{ProgramItem, FieldDefinition, StructDefinition}
 use Rattle.gp_tree.specs.TypeExpression.{TypeExpression, TypeExpressions, named_type, tuple_type, no_types, with_type}
 use Rattle.gp_types.specs.Types as types
 use Rattle.gp_types.specs.Types.{Ty, Tys, Fields}
 use Rattle.gp_types.specs.Size.{size, total_size, total_field_size}
 use Rattle.gp_scope.specs.Definitions.{struct_named}
-use Rattle.gp_scope.specs.Spelled.{spelled_by, all_spelled_by, fields_spelled_by, basic_type, opened, StructsHaveFields}
+use Rattle.gp_scope.specs.Spelled.{spelled_by, all_spelled_by, fields_spelled_by, basic_type, opened}
 use Rattle.gp_scope.specs.EachName.{each_name, each_name_of, each_field_name}
 use Rattle.gp_scope.specs.Levels.{size_by, total_by, fields_total, level_size}
 

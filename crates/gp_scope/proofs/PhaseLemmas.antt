@@ -1,5 +1,5 @@
 -- From the steps to the first fault.
-use Rattle.std.proofs.Common.{◌≡◌, ◌⊎◌, inl, inr, ℕ, suc, ◌<◌, ◌≤◌, Bool, true, false, ◌||◌, List, [], ◌∷◌, Option, Some, None, refl, sym, ap, subst, ◌∙◌, true≢false, Bor, bytes_eq, cond, find, nat_lt, slice_get, unwrap_or, zero, arith, MatchOption}
+use Rattle.std.proofs.Common.{◌≡◌, inl, inr, ℕ, suc, ◌≤◌, Bool, true, false, ◌||◌, List, [], ◌∷◌, Option, Some, None, refl, sym, ap, subst, ◌∙◌, true≢false, Bor, bytes_eq, cond, find, nat_lt, slice_get, unwrap_or, zero, arith, MatchOption}
 use Rattle.std.specs.Option.{option_map_or}
 use Rattle.std.specs.List.{list_any}
 use Rattle.std.proofs.lemmas.Slice.Eq.{bytes_eq-Decides}
@@ -11,7 +11,7 @@ use Rattle.gp_tree.specs.TypeExpression.{TypeExpression}
 use Rattle.gp_types.specs.Size.{size}
 use Rattle.gp_scope.specs.declared.fault.ScopeFault.{ScopeFault}
 use Rattle.gp_scope.specs.Checks.{Found}
-use Rattle.gp_scope.specs.Definitions.{struct_named, structs_in}
+use Rattle.gp_scope.specs.Definitions.{structs_in}
 use Rattle.gp_scope.specs.Cycles.{holds, IsWay, IsOnCycle}
 use Rattle.gp_scope.specs.FirstFault.{FindsCycle, IsFirstFault, names_fault}
 use Rattle.gp_scope.specs.Levels.{size_by, level_size}

@@ -1,17 +1,13 @@
 -- A search from a struct over what the structs hold.
-use Rattle.std.proofs.Common.{◌≡◌, ◌⊎◌, inl, inr, ℕ, ◌+◌, Bool, true, false, cond, ◌||◌, ◌&&◌, List, [], ◌∷◌, ◌++◌, map, Option, Some, None, is_some, option_map, refl, sym, ap, subst, ◌∙◌, true≢false, Bor, bytes_eq, if◌then◌else◌}
-use Rattle.std.specs.List.{list_any}
+use Rattle.std.proofs.Common.{◌≡◌, ◌⊎◌, inl, inr, ℕ, Bool, true, false, cond, ◌||◌, ◌&&◌, List, [], ◌∷◌, ◌++◌, Option, Some, None, is_some, option_map, refl, sym, ap, subst, ◌∙◌, true≢false, Bor, bytes_eq, if◌then◌else◌}
 use Rattle.std.proofs.lemmas.Slice.Eq.{bytes_eq-Decides}
 use Rattle.std.proofs.lemmas.Map.Text.{hash_map_updates_str}
 use Rattle.indexmap.specs.IndexMap.{IndexMap, get_by, UpdatesBy}
 use Rattle.gp_tree.specs.declared.struct_decl.StructDecl.{StructDecl}
-use Rattle.gp_tree.specs.Program.{ProgramItem, StructDefinition, struct_definition}
+use Rattle.gp_tree.specs.Program.{StructDefinition, struct_definition}
 use Rattle.gp_scope.specs.Checks.{is_among}
-use Rattle.gp_scope.specs.Definitions.{struct_named}
-use Rattle.gp_scope.specs.Cycles.{fields_mention, holds, IsWay, Reaches, IsOnCycle}
-use Rattle.gp_scope.specs.Tables.{Hasher, HasStructs, struct_at, texts_of}
+use Rattle.gp_scope.specs.Tables.{Hasher, struct_at, texts_of}
 use Rattle.gp_scope.proofs.TableLemmas.{bytes_eq-sym}
-use Rattle.gp_scope.proofs.CycleLemmas.{HeldBy, held_by, holds-some, way-push, bytes_eq-same}
 
 -- a name taken out of a table
 pub struct_at-remove : (m n : IndexMap (Bor (List ℕ)) (Bor StructDecl) Hasher) (name : Bor (List ℕ))

@@ -1,16 +1,15 @@
 -- The sizes of structs by their places, round by round.
-use Rattle.std.proofs.Common.{◌≡◌, ℕ, zero, suc, ◌+◌, ◌<◌, Bool, true, false, cond, List, [], ◌∷◌, ◌++◌, map, length, Option, Some, None, min, refl, sym, ap, subst, ◌∙◌, Bor, bytes_eq, slice_get, unwrap_or, option_map, position, arith, add-one}
+use Rattle.std.proofs.Common.{◌≡◌, ℕ, suc, ◌+◌, Bool, true, false, cond, List, [], ◌∷◌, ◌++◌, map, length, Option, Some, None, min, refl, sym, ap, ◌∙◌, Bor, bytes_eq, slice_get, unwrap_or, option_map, arith, add-one}
 use Rattle.std.specs.Option.{option_map_or}
 use Rattle.std.specs.List.{position_from}
 use Rattle.std.proofs.lemmas.Iterator.Adapters.{position_from-zero}
 use Rattle.std.specs.Map.{lookup, keys_of, values_of}
-use Rattle.indexmap.specs.IndexMap.{IndexMap, get_by, index_of_by, keys, values}
+use Rattle.indexmap.specs.IndexMap.{IndexMap, get_by, index_of_by, values}
 use Rattle.gp_tree.specs.declared.struct_decl.StructDecl.{StructDecl}
-use Rattle.gp_tree.specs.Program.{ProgramItem, StructDefinition, struct_definition}
-use Rattle.gp_scope.specs.Definitions.{struct_named}
+use Rattle.gp_tree.specs.Program.{ProgramItem, struct_definition}
 use Rattle.gp_scope.specs.Levels.{fields_total, level_size}
-use Rattle.gp_scope.specs.Tables.{Hasher, HasStructs, struct_at, value_in}
-use Rattle.gp_scope.proofs.Levels.{level-zero, level-none, level-suc}
+use Rattle.gp_scope.specs.Tables.{Hasher, HasStructs, value_in}
+use Rattle.gp_scope.proofs.Levels.{level-none, level-suc}
 
 Structs : Type 0
 Structs = IndexMap (Bor (List ℕ)) (Bor StructDecl) Hasher

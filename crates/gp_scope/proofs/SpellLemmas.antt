@@ -1,5 +1,5 @@
 -- Spelled types: their parts in memory, and their sizes.
-use Rattle.std.proofs.Common.{◌≡◌, ℕ, zero, suc, ◌+◌, ◌<◌, ◌≤◌, List, [], ◌∷◌, ◌++◌, map, length, get_or, take, add-one, refl, sym, ap, ap₂, subst, ◌∙◌, arith}
+use Rattle.std.proofs.Common.{◌≡◌, ℕ, zero, suc, ◌+◌, ◌<◌, ◌≤◌, List, [], ◌∷◌, ◌++◌, map, length, get_or, take, add-one, refl, sym, ap, ap₂, ◌∙◌, arith}
 use Rattle.gp_tree.specs.declared.type_expr.TypeExpr.{TypeExpr}
 use Rattle.gp_tree.specs.declared.struct_decl.FieldDecl.{FieldDecl}
 use Rattle.gp_tree.specs.Program.{field_definition}

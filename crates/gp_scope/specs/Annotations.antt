@@ -1,5 +1,5 @@
 -- The annotated assignments of a block and of a program, in text order.
-use Rattle.std.specs.Prelude.{◌≡◌, ℕ, List, [], ◌∷◌, ◌++◌}
+use Rattle.std.specs.Prelude.{List, [], ◌∷◌, ◌++◌}
 use Rattle.gp_base.specs.declared.name.LineNo.{LineNo}
 use Rattle.gp_tree.specs.Program.{ProgramItem, function_item}
 use Rattle.gp_tree.specs.Statement as tree

@@ -1,5 +1,5 @@
 -- The answers of the names phase and of its parts.
-use Rattle.std.specs.Prelude.{◌≡◌, ◌≢◌, ℕ, List, Option, Some, None, Result, MatchResult}
+use Rattle.std.specs.Prelude.{◌≡◌, ◌≢◌, List, Some, None, Result, MatchResult}
 use Rattle.gp_tree.specs.Program.{ProgramItem, program_items}
 use Rattle.gp_scope.specs.declared.fault.ScopeFault.{ScopeFault}
 use Rattle.gp_scope.specs.declared.fault.ScopeFault.TheVariants.{Memory}

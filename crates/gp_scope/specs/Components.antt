@@ -1,5 +1,5 @@
 -- Numbers of structs that show which of them are on no cycle.
-use Rattle.std.specs.Prelude.{ℕ, ◌-◌, Bool, true, ◌&&◌, List, Option, Some, None, nat_lt, nat_le}
+use Rattle.std.specs.Prelude.{ℕ, ◌-◌, Bool, true, ◌&&◌, List, Some, None, nat_lt, nat_le}
 use Rattle.std.specs.List.{list_all}
 use Rattle.gp_tree.specs.Program.{ProgramItem}
 use Rattle.gp_scope.specs.Definitions.{struct_named, structs_in}

@@ -1,6 +1,6 @@
 -- Structs that hold themselves, through fields and tuples.
-use Rattle.std.specs.Prelude.{◌≡◌, ℕ, Bool, true, false, ◌||◌, List, [], ◌∷◌, Option, Some, None, bytes_eq}
-use Rattle.gp_tree.specs.Program.{ProgramItem, FieldDefinition, StructDefinition}
+use Rattle.std.specs.Prelude.{◌≡◌, ℕ, Bool, true, false, ◌||◌, List, [], ◌∷◌, Some, None, bytes_eq}
+use Rattle.gp_tree.specs.Program.{ProgramItem, FieldDefinition}
 use Rattle.gp_tree.specs.TypeExpression.{TypeExpression, TypeExpressions, named_type, tuple_type, no_types, with_type}
 use Rattle.gp_scope.specs.Definitions.{struct_named}
 

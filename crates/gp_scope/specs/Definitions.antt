@@ -1,5 +1,5 @@
 -- The names that a program brings in and defines, and the checks of imports, of definitions' names and of decorators.
-use Rattle.std.specs.Prelude.{ℕ, Bool, true, false, not, ◌||◌, List, [], ◌∷◌, ◌++◌, Option, Some, None, codes, bytes_eq, if◌then◌else◌, find}
+use Rattle.std.specs.Prelude.{ℕ, Bool, false, not, ◌||◌, List, [], ◌∷◌, ◌++◌, Option, Some, None, codes, bytes_eq, if◌then◌else◌, find}
 use Rattle.gp_tree.specs.declared.program.Import.{Import}
 use Rattle.gp_tree.specs.Program.{ProgramItem, import_item, struct_item, function_item, StructDefinition, FunctionDefinition}
 use Rattle.gp_scope.specs.declared.fault.ScopeFault.TheVariants as fault

@@ -1,5 +1,5 @@
 -- The first fault of a program's names, or none. Each step goes over the whole program before the next begins.
-use Rattle.std.specs.Prelude.{◌≡◌, ◌≢◌, ◌⊎◌, Result, MatchResult, List, [], ◌∷◌, Option, Some, None, MatchOption}
+use Rattle.std.specs.Prelude.{◌≡◌, ◌≢◌, ◌⊎◌, Result, MatchResult, List, [], ◌∷◌, Some, None, MatchOption}
 use Rattle.gp_tree.specs.Program.{ProgramItem, StructDefinition}
 use Rattle.gp_scope.specs.declared.fault.ScopeFault.{ScopeFault}
 use Rattle.gp_scope.specs.declared.fault.ScopeFault.TheVariants as fault

@@ -1,5 +1,5 @@
 -- Sizes of written types by the sizes of names, and of structs level by level.
-use Rattle.std.specs.Prelude.{ℕ, zero, suc, ◌+◌, List, [], ◌∷◌, Option, Some, None, min}
+use Rattle.std.specs.Prelude.{ℕ, zero, suc, ◌+◌, List, [], ◌∷◌, Some, None, min}
 use Rattle.gp_tree.specs.Program.{ProgramItem, FieldDefinition}
 use Rattle.gp_tree.specs.TypeExpression.{TypeExpression, TypeExpressions, named_type, tuple_type, no_types, with_type}
 use Rattle.gp_scope.specs.Definitions.{struct_named}

@@ -1,5 +1,5 @@
 -- The checks of the parts of definitions: fields, parameters, results and annotated assignments.
-use Rattle.std.specs.Prelude.{ℕ, Bool, true, false, not, ◌||◌, ◌&&◌, List, [], ◌∷◌, ◌++◌, Option, Some, None, codes, bytes_eq, is_some}
+use Rattle.std.specs.Prelude.{ℕ, Bool, true, not, ◌||◌, ◌&&◌, List, [], ◌∷◌, ◌++◌, Option, Some, None, codes, bytes_eq, is_some}
 use Rattle.gp_base.specs.declared.name.LineNo.{LineNo}
 use Rattle.gp_tree.specs.Form.{Parameter}
 use Rattle.gp_tree.specs.Program.{ProgramItem, struct_item, function_item, FieldDefinition, FunctionDefinition}

@@ -1,5 +1,5 @@
 -- The checks of the sizes of types.
-use Rattle.std.specs.Prelude.{ℕ, List, [], ◌∷◌, Option, Some, None, nat_lt}
+use Rattle.std.specs.Prelude.{List, [], ◌∷◌, Option, Some, None, nat_lt}
 use Rattle.gp_base.specs.declared.name.LineNo.{LineNo}
 use Rattle.gp_tree.specs.Form.{Parameter}
 use Rattle.gp_tree.specs.Program.{ProgramItem, struct_item, function_item, FunctionDefinition}

@@ -1,5 +1,5 @@
 -- The types that written types spell, and what a program's structs, functions and annotated assignments have of them.
-use Rattle.std.specs.Prelude.{◌≡◌, ℕ, zero, suc, Bool, List, [], ◌∷◌, map, length, Option, Some, None, option_map, codes, bytes_eq, if◌then◌else◌, nat_eq, find}
+use Rattle.std.specs.Prelude.{◌≡◌, ℕ, zero, suc, List, [], ◌∷◌, map, length, Option, Some, None, option_map, codes, bytes_eq, if◌then◌else◌, nat_eq, find}
 use Rattle.gp_base.specs.declared.name.LineNo.{LineNo}
 use Rattle.gp_tree.specs.Form as form
 use Rattle.gp_tree.specs.Program.{ProgramItem, FieldDefinition, StructDefinition, FunctionDefinition}
@@ -8,7 +8,7 @@ use Rattle.gp_types.specs.Types as types
 use Rattle.gp_types.specs.Types.{Ty, Tys, Field, Fields}
 use Rattle.gp_types.specs.Signature.{Parameter, Signature, mode_of}
 use Rattle.gp_scope.specs.Definitions.{struct_named, function_named}
-use Rattle.gp_scope.specs.Annotations.{Annotation, program_annotations}
+use Rattle.gp_scope.specs.Annotations.{program_annotations}
 
 -- the type that a written type spells, where names stand for these types
 abbrev mutual

@@ -1,4 +1,4 @@
-use Rattle.std.proofs.Common.{◌≡◌, ℕ, List, ◌||◌, map, drop}
+use Rattle.std.proofs.Common.{◌≡◌, ℕ, List, ◌||◌, drop}
 use Rattle.gp_scope.specs.Tables.{texts_of}
 use Rattle.gp_tree.specs.TypeExpression.{type_expressions}
 use Rattle.gp_scope.specs.Checks.{is_among}

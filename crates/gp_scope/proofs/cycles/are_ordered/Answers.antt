@@ -1,4 +1,4 @@
-use Rattle.std.proofs.Common.{◌≡◌, ℕ, ◌+◌, ◌<◌, List, ◌∷◌, Bool, true, ◌&&◌, ap, sym, ◌∙◌, refl, drop, length, get_or, arith}
+use Rattle.std.proofs.Common.{◌≡◌, ℕ, ◌+◌, ◌<◌, List, Bool, true, ◌&&◌, ap, sym, ◌∙◌, refl, drop, length, get_or, arith}
 use Rattle.std.specs.List.{list_all}
 use Rattle.gp_tree.specs.declared.struct_decl.StructDecl.{StructDecl}
 use Rattle.gp_tree.specs.declared.program.Item.{Item}

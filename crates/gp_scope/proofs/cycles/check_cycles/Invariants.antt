@@ -1,4 +1,3 @@
-use Rattle.std.proofs.Common.{Option}
 use Rattle.gp_tree.specs.Program.{program_items}
 use Rattle.std.proofs.Common.{drop}
 use Rattle.gp_scope.specs.Checks.{Found}

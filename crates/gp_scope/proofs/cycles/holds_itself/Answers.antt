@@ -1,8 +1,8 @@
-use Rattle.std.proofs.Common.{rules, ◌≡◌, [], ◌∷◌, ◌++◌, true, false, is_some, sym, subst, ◌∙◌, bytes_eq, Some, Bor, List, ℕ}
+use Rattle.std.proofs.Common.{rules, ◌≡◌, [], true, false, is_some, sym, subst, ◌∙◌, bytes_eq, Some}
 use Rattle.indexmap.specs.IndexMap.{get_by}
 use Rattle.gp_tree.specs.Program.{program_items, struct_definition}
 use Rattle.gp_scope.specs.Tables.{struct_at}
-use Rattle.gp_scope.proofs.SearchSteps.{Search, search-start, search-step, search-skip, search-answers, no-struct, has-some, at-some}
+use Rattle.gp_scope.proofs.SearchSteps.{Search, search-step, search-skip, search-answers, no-struct, has-some, at-some}
 use Rattle.gp_scope.proofs.cycles.holds_itself.Goals as goal
 
 pub returns-then-not-contains_key : goal.returns-then-not-contains_key

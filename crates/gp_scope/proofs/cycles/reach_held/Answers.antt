@@ -1,5 +1,5 @@
-use Rattle.std.proofs.Common.{rules, arith, ◌≡◌, ◌+◌, true, false, is_some, ap, ◌∙◌, bytes_eq, vec_len}
-use Rattle.indexmap.specs.IndexMap.{get_by, index_map_len}
+use Rattle.std.proofs.Common.{rules, ◌≡◌, true, false, is_some, ap, ◌∙◌, bytes_eq}
+use Rattle.indexmap.specs.IndexMap.{get_by}
 use Rattle.gp_scope.specs.Checks.{is_among}
 use Rattle.gp_scope.specs.Tables.{texts_of}
 use Rattle.gp_scope.proofs.SearchLemmas.{seen-step, found-step, missing-step}

@@ -1,4 +1,4 @@
-use Rattle.std.proofs.Common.{rules, ◌≡◌, false, is_some}
+use Rattle.std.proofs.Common.{rules}
 use Rattle.gp_scope.proofs.TableLemmas.{struct_at-add}
 use Rattle.gp_scope.proofs.definitions.add_struct.Goals as goal
 

@@ -1,4 +1,4 @@
-use Rattle.std.proofs.Common.{◌≡◌, [], map, drop}
+use Rattle.std.proofs.Common.{◌≡◌, [], drop}
 use Rattle.gp_tree.specs.Program.{program_items}
 use Rattle.gp_scope.specs.Definitions as spec
 use Rattle.gp_scope.specs.Tables.{texts}

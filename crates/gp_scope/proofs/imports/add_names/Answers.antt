@@ -1,4 +1,4 @@
-use Rattle.std.proofs.Common.{rules, arith, ◌≡◌, List, ℕ, ap, ◌∙◌, bytes_eq, ◌||◌, string_bytes}
+use Rattle.std.proofs.Common.{rules, arith, ◌≡◌, ap, ◌∙◌, bytes_eq, ◌||◌, string_bytes}
 use Rattle.gp_scope.specs.Tables.{has_name}
 use Rattle.gp_scope.proofs.TableLemmas.{names_step, has_name-insert}
 use Rattle.gp_scope.proofs.imports.add_names.Goals as goal

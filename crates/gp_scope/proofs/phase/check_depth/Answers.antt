@@ -1,4 +1,4 @@
-use Rattle.std.proofs.Common.{rules, ◌≡◌, false, sym, ◌∙◌, refl, nat_lt}
+use Rattle.std.proofs.Common.{rules, ◌≡◌, false, refl, nat_lt}
 use Rattle.std.specs.List.{list_any}
 use Rattle.gp_tree.specs.Program.{program_items}
 use Rattle.gp_scope.proofs.PhaseLemmas.{small-finds}

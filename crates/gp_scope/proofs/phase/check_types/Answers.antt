@@ -1,4 +1,4 @@
-use Rattle.std.proofs.Common.{◌≡◌, ◌∙◌, ap, refl, Some, None}
+use Rattle.std.proofs.Common.{◌∙◌, ap, refl, Some, None}
 use Rattle.gp_tree.specs.Program.{program_items}
 use Rattle.gp_scope.specs.Sizes.{sizes_fault}
 use Rattle.gp_scope.specs.Tables.{value_in}

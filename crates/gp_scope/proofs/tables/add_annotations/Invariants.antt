@@ -1,4 +1,4 @@
-use Rattle.std.proofs.Common.{◌≡◌, ℕ, List, map, drop, option_map, find, nat_eq}
+use Rattle.std.proofs.Common.{◌≡◌, map, drop, option_map, find, nat_eq}
 use Rattle.std.specs.Option.{option_or}
 use Rattle.indexmap.specs.IndexMap.{get_by}
 use Rattle.gp_base.specs.declared.name.LineNo.{LineNo}

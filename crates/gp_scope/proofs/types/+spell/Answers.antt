@@ -1,10 +1,10 @@
-use Rattle.std.proofs.Common.{rules, arith, ◌≡◌, ℕ, suc, ◌≤◌, List, length, map, Some, ap, ap₂, sym, ◌∙◌}
+use Rattle.std.proofs.Common.{rules, arith, ◌≡◌, suc, ◌≤◌, map, Some, ap, ap₂, sym, ◌∙◌}
 use Rattle.gp_tree.specs.Program.{program_items, field_definition, struct_definition}
 use Rattle.gp_tree.specs.TypeExpression.{type_expression, type_expressions, tuple_type}
 use Rattle.gp_types.specs.Types as types
 use Rattle.gp_types.specs.Types.{tys_of, fields_of}
 use Rattle.gp_types.specs.Size.{size, total_size, total_field_size}
-use Rattle.gp_types.specs.View.{ty_view, field_view}
+use Rattle.gp_types.specs.View.{field_view}
 use Rattle.gp_scope.specs.Definitions.{struct_named}
 use Rattle.gp_scope.specs.NamesOf.{AreWhole, whole}
 use Rattle.gp_scope.specs.Spelled.{spelled, spelled_by, all_spelled_by, fields_spelled_by, spelled_field}

@@ -1,6 +1,6 @@
 use Rattle.std.proofs.Common.{◌≡◌, ◌+◌, ◌*◌, map, take}
-use Rattle.gp_tree.specs.Program.{program_items, field_definition}
-use Rattle.gp_tree.specs.TypeExpression.{type_expression, type_expressions, named_type}
+use Rattle.gp_tree.specs.Program.{field_definition}
+use Rattle.gp_tree.specs.TypeExpression.{type_expression, type_expressions}
 use Rattle.gp_types.specs.Size.{size, total_size, total_field_size}
 use Rattle.gp_types.specs.View.{ty_view, field_view}
 use Rattle.gp_scope.specs.NamesOf.{whole}

@@ -1,6 +1,7 @@
 pub mod Clean
 pub mod EventText
 pub mod FaultPlan
+pub mod Membership
 pub mod Number
 pub mod Outside
 pub mod Run

@@ -4,7 +4,8 @@ use Rattle.std.proofs.lemmas.List.{length-map}
 use Rattle.std.proofs.lemmas.List.Elements.{filter-append}
 use Rattle.std.proofs.lemmas.List.{append-nil}
 use Rattle.std.proofs.lemmas.Bool.Decides.{eqb_tells}
-use Rattle.hg_graph.specs.Graph.{Graph, Link, Ports, Order, Port, In, LinkIsWithin, IsGraph, numbers, op_at, parent_at, children}
+use Rattle.gp_base.specs.Membership.{In}
+use Rattle.hg_graph.specs.Graph.{Graph, Link, Ports, Order, Port, LinkIsWithin, IsGraph, numbers, op_at, parent_at, children}
 use Rattle.hg_graph.specs.NodeIndex.{NodeIndex, node_index, input_count, output_count, numbers_into, numbers_from, orders_into, orders_from, is_into, is_from, is_stray, is_order_into, is_order_from, with_input, with_output, with_before, with_after}
 use Rattle.hg_graph.specs.GraphIndex.{IsIndexed, updated, with_ports, with_order}
 use Rattle.hg_graph.proofs.LinkNumbers.{length-numbers, map-same, numbers-other, numbers-more, inputs-same, inputs-pushed, outputs-same, outputs-pushed, strays-same, strays-pushed}

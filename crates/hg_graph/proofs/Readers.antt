@@ -3,7 +3,8 @@ use Rattle.std.proofs.Common.{◌≡◌, ◌≢◌, ◌<◌, ◌≤◌, ◌+◌,
 use Rattle.std.specs.Option.{option_and_then}
 use Rattle.std.proofs.lemmas.List.{length-map, length-append, append_assoc}
 use Rattle.std.proofs.lemmas.Bool.Decides.{eqb_tells}
-use Rattle.hg_graph.specs.Graph.{Graph, Link, Ports, Order, Port, In, LinkIsWithin, numbers, is_port, feeder}
+use Rattle.gp_base.specs.Membership.{In}
+use Rattle.hg_graph.specs.Graph.{Graph, Link, Ports, Order, Port, LinkIsWithin, numbers, is_port, feeder}
 use Rattle.hg_graph.specs.NodeIndex.{node_index, input_count, output_count, numbers_where, numbers_into, numbers_from, is_into, is_stray}
 use Rattle.hg_graph.specs.Sources.{source_of}
 use Rattle.hg_graph.proofs.LinkNumbers.{eqb-other, length-numbers}

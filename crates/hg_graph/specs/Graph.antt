@@ -1,5 +1,6 @@
 -- Program graphs: a list of nodes and a list of links, with look-ups in them.
-use Rattle.std.specs.Prelude.{◌≡◌, ◌<◌, ◌⊎◌, ℕ, zero, suc, ◌+◌, Bool, not, ◌&&◌, ◌==◌, if◌then◌else◌, List, [], ◌∷◌, length, slice_get, filter, Option, Some, None}
+use Rattle.std.specs.Prelude.{◌≡◌, ◌<◌, ℕ, zero, suc, ◌+◌, Bool, not, ◌&&◌, ◌==◌, if◌then◌else◌, List, [], ◌∷◌, length, slice_get, filter, Option, Some, None}
+use Rattle.gp_base.specs.Membership.{In}
 use Rattle.hg_ops.specs.Op.{Op, Module, ins_of, fires}
 
 -- A node is named by its place in the list.
@@ -78,11 +79,6 @@ links_from (Order a b ∷ links) port = links_from links port
 -- the port of a node behind its value input ports: where what uses a function or a constant has its static input
 abbrev pub static_input : Graph → ℕ → Port
 static_input g n = record { node = n; index = length (ins_of (op_at g n)) }
-
--- x stands in the list
-abbrev pub In : {A : Type 0} → A → List A → Type 0
-In x [] = ⊥
-In x (y ∷ ys) = (x ≡ y) ⊎ In x ys
 
 -- both nodes of a link are nodes of the graph
 abbrev pub LinkIsWithin : ℕ → Link → Type 0

@@ -4,7 +4,8 @@ use Rattle.gp_base.specs.Run.{Out, Returned, Stopped, TurnsUsed, OutcomesUsed, D
 use Rattle.gp_base.specs.World.{World, is_live, next}
 use Rattle.hg_ops.specs.GraphType.{GraphType, is_linear}
 use Rattle.hg_ops.specs.Op.{Types, FuncDefn, outs_of}
-use Rattle.hg_graph.specs.Graph.{Graph, Link, Port, In, op_at, firing_children, taker}
+use Rattle.gp_base.specs.Membership.{In}
+use Rattle.hg_graph.specs.Graph.{Graph, Link, Port, op_at, firing_children, taker}
 use Rattle.hg_graph.specs.Run.{Fired, Open, Look, outs_at, has_fired, Note, State, runs}
 use Rattle.hg_graph.specs.Valid.{Edge}
 use Rattle.hg_graph.specs.Value.{Value, HaveTypes, functions, uses, uses_all}

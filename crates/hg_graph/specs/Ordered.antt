@@ -1,7 +1,8 @@
 -- Ordered graphs.
 use Rattle.std.specs.Prelude.{◌≡◌, ◌≢◌, ◌⊎◌, ℕ, true}
 use Rattle.hg_ops.specs.Op.{is_dataflow_container, is_effect}
-use Rattle.hg_graph.specs.Graph.{Graph, In, op_at, children, firing_children}
+use Rattle.gp_base.specs.Membership.{In}
+use Rattle.hg_graph.specs.Graph.{Graph, op_at, children, firing_children}
 use Rattle.hg_graph.specs.Valid.{Path}
 
 -- an effect node: one with an effect op, or with an effect op somewhere inside it

@@ -3,7 +3,8 @@ use Rattle.std.specs.Prelude.{◌≡◌, ◌≢◌, ℕ, ◌<◌, Bool, true, fa
 use Rattle.gp_base.specs.Tag.{IsTag}
 use Rattle.hg_ops.specs.GraphType.{GraphType, is_linear}
 use Rattle.hg_ops.specs.Op.{Op, Types, Module, FuncDefn, Const, Input, Output, Dfg, Cfg, DataflowBlock, ExitBlock, Conditional, Case, TailLoop, Tag, Call, LoadConstant, Ext, ResultInt, ResultBool, PortKind, ValuePort, ControlPort, ins_of, outs_of, input_ports, output_ports, is_dataflow_container, is_operation, inner_ins, inner_outs}
-use Rattle.hg_graph.specs.Graph.{Graph, Port, Ports, Order, In, IsGraph, op_at, parent_at, children, feeder, taker, links_into, links_from, static_input}
+use Rattle.gp_base.specs.Membership.{In}
+use Rattle.hg_graph.specs.Graph.{Graph, Port, Ports, Order, IsGraph, op_at, parent_at, children, feeder, taker, links_into, links_from, static_input}
 
 abbrev pub is_module : Op → Bool
 is_module Module = true

@@ -2,7 +2,8 @@
 use Rattle.std.proofs.Common.{◌≡◌, ℕ, zero, suc, ◌+◌, ◌<◌, ◌≤◌, true, List, [], ◌∷◌, length, refl, sym, ap, ◌∙◌, arith}
 use Rattle.gp_base.specs.Run.{◌>>=◌}
 use Rattle.hg_ops.specs.Op.{outs_of, is_dataflow_container}
-use Rattle.hg_graph.specs.Graph.{Graph, In, op_at}
+use Rattle.gp_base.specs.Membership.{In}
+use Rattle.hg_graph.specs.Graph.{Graph, op_at}
 use Rattle.hg_graph.specs.Ordered.{IsOrdered}
 use Rattle.hg_graph.specs.Run.{Fired, Open, outs_at, Ready, ready, no_note, fire, firings, runs, world_out}
 use Rattle.hg_graph.specs.Value.{Value, HaveTypes, functions}

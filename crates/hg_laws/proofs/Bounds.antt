@@ -7,7 +7,8 @@ use Rattle.gp_base.specs.Clean.{world_after}
 use Rattle.gp_base.specs.Run.{Run, Out, Returned, Stopped, Stuck, go_on, ◌>>=◌, ret, stop}
 use Rattle.gp_base.specs.World.{World, turn_of}
 use Rattle.hg_ops.specs.Op.{Op, Module, FuncDefn, Const, Dfg, Cfg, DataflowBlock, ExitBlock, Conditional, Case, TailLoop, Call, LoadConstant}
-use Rattle.hg_graph.specs.Graph.{Graph, Port, In, op_of, op_at, children, firing_children, feeder, taker, static_input}
+use Rattle.gp_base.specs.Membership.{In}
+use Rattle.hg_graph.specs.Graph.{Graph, Port, op_of, op_at, children, firing_children, feeder, taker, static_input}
 use Rattle.hg_graph.specs.Run.{Fired, Open, outs_at, inputs, ready, perform, State, Note, with_world, on_world, choose, pick_from, or_stuck, at_moment, Enter, at_node, at_port, with_variant, constant, after_turn, fire_op, fire, firings, region, after_round, jump, enter_op, level, resume, runs}
 use Rattle.hg_graph.specs.Value.{Value, Variant}
 use Rattle.hg_laws.proofs.Runs.{Giving, Gives, then_gives, no_types}

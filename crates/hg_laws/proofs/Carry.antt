@@ -5,7 +5,8 @@ use Rattle.std.proofs.lemmas.Bool.Decides.{eqb_tells}
 use Rattle.std.proofs.lemmas.Bool.{eqb-true, eq-eqb}
 use Rattle.hg_ops.specs.GraphType.{GraphType, is_linear}
 use Rattle.hg_ops.specs.Op.{ins_of, outs_of}
-use Rattle.hg_graph.specs.Graph.{Graph, In, op_at, firing_children}
+use Rattle.gp_base.specs.Membership.{In}
+use Rattle.hg_graph.specs.Graph.{Graph, op_at, firing_children}
 use Rattle.hg_graph.specs.Moments.{has_read}
 use Rattle.hg_graph.specs.Run.{Fired, Open, Look, outs_at, has_fired, value_at, inputs, Ready}
 use Rattle.hg_graph.specs.Value.{Value, HasType, HaveTypes, functions, uses_all}

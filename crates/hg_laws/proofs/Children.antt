@@ -3,7 +3,8 @@ use Rattle.std.proofs.Common.{◌≡◌, ◌≢◌, inl, inr, ℕ, zero, suc, �
 use Rattle.std.specs.Prelude.{slice_get}
 use Rattle.std.proofs.lemmas.Bool.{eqb-true, eq-eqb}
 use Rattle.hg_ops.specs.Op.{fires}
-use Rattle.hg_graph.specs.Graph.{Graph, In, op_at, parent_at, children, firing_children, numbers}
+use Rattle.gp_base.specs.Membership.{In}
+use Rattle.hg_graph.specs.Graph.{Graph, op_at, parent_at, children, firing_children, numbers}
 use Rattle.hg_laws.proofs.Lists.{Distinct, In-filter, In-filter_back, In-numbers, In-numbers_back, Distinct-filter, Distinct-numbers}
 use Rattle.hg_laws.proofs.Looks.{eqb_no, not_both}
 

@@ -2,7 +2,7 @@
 use Rattle.std.proofs.Common.{◌≡◌, ◌≢◌, ◌⊎◌, inl, inr, ⊎_elim, ℕ, zero, suc, List, [], ◌∷◌, refl, sym, ap, ◌∙◌}
 use Rattle.gp_base.specs.Run.{Run, Stuck, go_on, ◌>>=◌, ret, stop}
 use Rattle.gp_base.specs.World.{World}
-use Rattle.hg_graph.specs.Graph.{In}
+use Rattle.gp_base.specs.Membership.{In}
 use Rattle.hg_laws.proofs.Runs.{Giving, then_same}
 
 abbrev pub first_of : {A B : Type 0} → List A → (A → Run World B) → Run World B

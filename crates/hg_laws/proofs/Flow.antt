@@ -5,7 +5,8 @@ use Rattle.std.proofs.lemmas.Bool.Decides.{eqb_tells}
 use Rattle.std.proofs.lemmas.Bool.{eqb-true, eq-eqb}
 use Rattle.hg_ops.specs.GraphType.{GraphType, is_linear}
 use Rattle.hg_ops.specs.Op.{ins_of, outs_of}
-use Rattle.hg_graph.specs.Graph.{Graph, In, op_at, firing_children}
+use Rattle.gp_base.specs.Membership.{In}
+use Rattle.hg_graph.specs.Graph.{Graph, op_at, firing_children}
 use Rattle.hg_graph.specs.Moments.{yet_to_fire, IsPartway}
 use Rattle.hg_graph.specs.Run.{Look, has_fired, value_at, cons_both, inputs, Ready, ready}
 use Rattle.hg_graph.specs.Valid.{Edge, Path, edge, joined}

@@ -5,7 +5,8 @@ use Rattle.std.proofs.lemmas.Bool.{cases_lt, lt-ltb}
 use Rattle.std.proofs.lemmas.Option.{slice_get_past}
 use Rattle.hg_ops.specs.GraphType.{GraphType, is_linear}
 use Rattle.hg_ops.specs.Op.{Op, Types, Module, FuncDefn, Const, Input, Output, Dfg, Cfg, DataflowBlock, ExitBlock, Conditional, Case, TailLoop, Tag, Call, LoadConstant, Ext, PortKind, ValuePort, ControlPort, ConstantPort, ins_of, outs_of, other_inputs, other_outputs, input_ports, output_ports, is_dataflow_container, is_operation, inner_ins, inner_outs}
-use Rattle.hg_graph.specs.Graph.{Graph, Port, Link, Ports, Order, In, is_port, op_of, op_at, parent_at, children, feeder, taker, static_input}
+use Rattle.gp_base.specs.Membership.{In}
+use Rattle.hg_graph.specs.Graph.{Graph, Port, Link, Ports, Order, is_port, op_of, op_at, parent_at, children, feeder, taker, static_input}
 use Rattle.hg_graph.specs.Valid
 use Rattle.hg_graph.specs.Valid.{IsValid, Keeps, KeepsBlocks, KeepsCases, KeepsSuccessors, KeepsStatic, KeepsCallee, KeepsTags, HasPlace, HasBoundary, HasBlocks, HasCase, HasCases, HasStatic, HasConstant, HasCallee, HasSuccessor, JoinsPorts, JoinsNodes, LinksJoin, LinksStayInside, Edge, Path, edge, joined, along_value, along_order, may_stand_in, stands_in_region, is_boundary, is_output, is_input, is_exit, is_block, is_local, block_ins}
 use Rattle.hg_laws.proofs.Lists.{get_within}

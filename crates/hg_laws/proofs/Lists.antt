@@ -3,7 +3,8 @@ use Rattle.std.proofs.Common.{◌≡◌, ◌≢◌, ◌⊎◌, inl, inr, ⊎_eli
 use Rattle.std.proofs.lemmas.Bool.Decides.{eqb_tells}
 use Rattle.std.specs.List.{cons_option}
 use Rattle.std.specs.Prelude.{slice_get}
-use Rattle.hg_graph.specs.Graph.{In, numbers}
+use Rattle.gp_base.specs.Membership.{In}
+use Rattle.hg_graph.specs.Graph.{numbers}
 
 -- each element once
 abbrev pub Distinct : {A : Type 0} → List A → Type 0

@@ -4,7 +4,8 @@ use Rattle.std.specs.Prelude.{slice_get}
 use Rattle.std.proofs.lemmas.Bool.Decides.{eqb_tells}
 use Rattle.std.proofs.lemmas.Bool.{eqb-true, eq-eqb}
 use Rattle.hg_ops.specs.Op.{ins_of}
-use Rattle.hg_graph.specs.Graph.{Graph, In, op_at, firing_children}
+use Rattle.gp_base.specs.Membership.{In}
+use Rattle.hg_graph.specs.Graph.{Graph, op_at, firing_children}
 use Rattle.hg_graph.specs.Run.{Look, has_fired, value_at, cons_both, inputs, orders_kept, Ready, with_inputs, candidate, ready}
 use Rattle.hg_graph.specs.Value.{Value}
 use Rattle.hg_laws.proofs.Lists.{In-filter_map, In-filter_map_back}

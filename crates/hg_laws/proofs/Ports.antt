@@ -7,7 +7,8 @@ use Rattle.std.proofs.lemmas.Option.{slice_get_past}
 use Rattle.std.proofs.lemmas.Bool.{cases_lt}
 use Rattle.hg_ops.specs.GraphType.{GraphType, is_linear}
 use Rattle.hg_ops.specs.Op.{Types, outs_of}
-use Rattle.hg_graph.specs.Graph.{Graph, Port, In, op_at, op_of, taker}
+use Rattle.gp_base.specs.Membership.{In}
+use Rattle.hg_graph.specs.Graph.{Graph, Port, op_at, op_of, taker}
 use Rattle.hg_graph.specs.Moments.{has_read, FiredOnce, IsGoodOpen, AreGoodOpen, is_read, at_ports, at_nodes, unread}
 use Rattle.hg_graph.specs.Run.{Fired, Open, Look, outs_at, has_fired, value_at}
 use Rattle.hg_graph.specs.Value.{Value, HasType, HaveTypes, functions, uses}

@@ -4,7 +4,8 @@ use Rattle.std.specs.Prelude.{slice_get}
 use Rattle.std.proofs.lemmas.Bool.Decides.{eqb_tells}
 use Rattle.hg_ops.specs.GraphType.{GraphType}
 use Rattle.hg_ops.specs.Op.{Op, Types, Module, Input, Output, Const, ins_of, outs_of, fires, is_dataflow_container, is_operation, inner_ins, inner_outs}
-use Rattle.hg_graph.specs.Graph.{Graph, In, op_at, parent_at, children, firing_children}
+use Rattle.gp_base.specs.Membership.{In}
+use Rattle.hg_graph.specs.Graph.{Graph, op_at, parent_at, children, firing_children}
 use Rattle.hg_graph.specs.Valid.{is_output, is_input}
 use Rattle.hg_laws.proofs.Looks.{not_both}
 use Rattle.hg_laws.proofs.Children.{child_is, is_child, kid_is, is_kid, firing_children_distinct}

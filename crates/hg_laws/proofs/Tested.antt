@@ -3,7 +3,8 @@ use Rattle.std.proofs.Common.{◌≡◌, ◌≢◌, ◌⊎◌, inl, inr, ℕ, ze
 use Rattle.std.proofs.lemmas.Bool.{eqb-true, ltb-true, cases_lt}
 use Rattle.std.proofs.lemmas.Option.{slice_get_past}
 use Rattle.hg_ops.specs.Op.{Op, FuncDefn, Cfg, DataflowBlock, Conditional, Call, LoadConstant, ins_of, outs_of, is_dataflow_container, is_effect}
-use Rattle.hg_graph.specs.Graph.{Graph, Port, Link, Ports, Order, In, IsGraph, op_of, op_at, parent_at, children, firing_children, feeder, links_into, static_input}
+use Rattle.gp_base.specs.Membership.{In}
+use Rattle.hg_graph.specs.Graph.{Graph, Port, Link, Ports, Order, IsGraph, op_of, op_at, parent_at, children, firing_children, feeder, links_into, static_input}
 use Rattle.hg_graph.specs.Ordered.{HasEffect, own, inside, IsOrdered}
 use Rattle.hg_graph.specs.Valid
 use Rattle.hg_graph.specs.Valid.{Rule, IsValid, Keeps, KeepsBlocks, KeepsCases, KeepsSuccessors, KeepsStatic, KeepsCallee, KeepsName, HasPlace, HasSuccessor, Edge, Path, edge, joined, along_value, along_order, may_stand_in}

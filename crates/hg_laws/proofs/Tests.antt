@@ -9,7 +9,8 @@ use Rattle.gp_base.specs.Tag.{IsPrintable, IsTag}
 use Rattle.hg_ops.specs.GraphType as type
 use Rattle.hg_ops.specs.GraphType.{GraphType, Row, Rows, no_types, next, no_rows, next_row, is_linear}
 use Rattle.hg_ops.specs.Op.{Op, Types, Module, FuncDefn, Const, Input, Output, Dfg, Cfg, DataflowBlock, ExitBlock, Conditional, Case, TailLoop, Tag, Call, LoadConstant, Ext, ResultInt, ResultBool, PortKind, ValuePort, ControlPort, FunctionPort, ConstantPort, ins_of, input_ports, output_ports, is_operation, inner_ins, inner_outs}
-use Rattle.hg_graph.specs.Graph.{Graph, Port, Link, Ports, Order, In, LinkIsWithin, op_at, parent_at, children, feeder, taker, links_into, links_from, static_input}
+use Rattle.gp_base.specs.Membership.{In}
+use Rattle.hg_graph.specs.Graph.{Graph, Port, Link, Ports, Order, LinkIsWithin, op_at, parent_at, children, feeder, taker, links_into, links_from, static_input}
 use Rattle.hg_graph.specs.Valid.{KeepsTags, HasPlace, HasBoundary, HasBlocks, HasCases, HasStatic, HasConstant, HasCallee, HasSuccessor, LinksJoin, LinksStayInside, Path, IsAncestor, of_child, of_further, edge, joined, along_value, along_order, is_module, is_boundary, is_output, is_input, is_exit, is_block, is_local, block_ins, name_of}
 use Rattle.hg_laws.proofs.Looks.{not_both}
 

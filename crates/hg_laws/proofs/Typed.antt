@@ -10,7 +10,8 @@ use Rattle.hg_ops.specs.GraphType as type
 use Rattle.hg_ops.specs.GraphType.{GraphType, sum_type, tuple_type, bool_type}
 use Rattle.hg_ops.specs.Op as op
 use Rattle.hg_ops.specs.Op.{one_qubit_name, two_qubit_name, rotation_name, Op, Types, Extension, Module, FuncDefn, Const, Input, Output, Dfg, Cfg, DataflowBlock, ExitBlock, Conditional, Case, TailLoop, Tag, Call, LoadConstant, Ext, Division, extension_ins, extension_outs, ins_of, outs_of, is_dataflow_container, inner_ins, inner_outs}
-use Rattle.hg_graph.specs.Graph.{Graph, Port, In, op_at, parent_at, children, firing_children, feeder, taker, static_input}
+use Rattle.gp_base.specs.Membership.{In}
+use Rattle.hg_graph.specs.Graph.{Graph, Port, op_at, parent_at, children, firing_children, feeder, taker, static_input}
 use Rattle.hg_graph.specs.Run.{Fired, Open, outs_at, inputs, ready, with_tuple, nothing, divide, divided, perform_extension, perform, State, Note, on_world, choose, pick_from, or_stuck, at_moment, Enter, at_node, at_port, with_variant, constant, after_turn, fire_op, fire, firings, region, after_round, jump, enter_op, level, resume}
 use Rattle.hg_graph.specs.Valid.{is_block, block_ins}
 use Rattle.hg_graph.specs.Value.{Value, Int, Qubit, Variant, values, packed, truth, Functions, HasType, HaveTypes, functions}

@@ -4,7 +4,7 @@ use Rattle.std.specs.Prelude.{slice_get}
 use Rattle.hg_ops.specs.GraphType as type
 use Rattle.hg_ops.specs.GraphType.{GraphType, Row, Rows, no_types, next, no_rows, next_row, types, row_of, rows_of, sum_type, is_linear, row_linear, rows_linear}
 use Rattle.hg_ops.specs.Op.{Types}
-use Rattle.hg_graph.specs.Graph.{In}
+use Rattle.gp_base.specs.Membership.{In}
 use Rattle.hg_graph.specs.Value.{Value, Int, Qubit, Variant, Values, no_values, value, values, packed, Functions, row_at, HasType, HasRow, HaveTypes, uses, uses_packed, uses_all}
 use Rattle.hg_laws.proofs.Lists.{ports, ports-suc, ports-zero}
 

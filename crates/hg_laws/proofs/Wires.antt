@@ -3,7 +3,8 @@ use Rattle.std.proofs.Common.{◌≡◌, ◌⊎◌, inl, inr, ℕ, zero, suc, �
 use Rattle.std.specs.List.{cons_option}
 use Rattle.std.proofs.lemmas.Bool.{ltb-true, lt-ltb, eqb-true}
 use Rattle.hg_ops.specs.Op.{ins_of}
-use Rattle.hg_graph.specs.Graph.{Graph, Port, Link, Ports, Order, In, op_at, is_port, feeder, taker, links_into, links_from}
+use Rattle.gp_base.specs.Membership.{In}
+use Rattle.hg_graph.specs.Graph.{Graph, Port, Link, Ports, Order, op_at, is_port, feeder, taker, links_into, links_from}
 use Rattle.hg_graph.specs.Run.{Look, has_fired, value_at, value_of, cons_both, pulled, inputs, orders_kept}
 use Rattle.hg_graph.specs.Valid.{Edge, along_value, along_order}
 use Rattle.hg_graph.specs.Value.{Value}

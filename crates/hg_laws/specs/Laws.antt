@@ -5,7 +5,8 @@ use Rattle.gp_base.specs.Run.{Returned, ◌>>=◌}
 use Rattle.gp_base.specs.World.{World, start, is_live}
 use Rattle.hg_ops.specs.GraphType.{GraphType, is_linear}
 use Rattle.hg_ops.specs.Op.{Types, FuncDefn, ins_of, outs_of, inner_ins, inner_outs, is_dataflow_container}
-use Rattle.hg_graph.specs.Graph.{Graph, In, op_at, firing_children}
+use Rattle.gp_base.specs.Membership.{In}
+use Rattle.hg_graph.specs.Graph.{Graph, op_at, firing_children}
 use Rattle.hg_graph.specs.Moments.{HasOnePlace, EachMoment, IsProper, ReturnsItsQubits, EndsWell, IsPartway, noted_run, notes_of}
 use Rattle.hg_graph.specs.Ordered.{IsOrdered}
 use Rattle.hg_graph.specs.Run.{Fired, Open, outs_at, inputs, Ready, ready, State, no_note, fire, firings, enter_op, level, resume, runs, world_out, graph_run}

@@ -4,7 +4,8 @@ use Rattle.std.specs.Prelude.{slice_get}
 use Rattle.std.proofs.lemmas.Bool.{cases_eq, cases_lt}
 use Rattle.std.proofs.lemmas.List.{length-set, get_or-set_same, get_or-set_other, length-replicate, get_or-replicate, get_or_past}
 use Rattle.hg_ops.specs.Op.{ins_of}
-use Rattle.hg_graph.specs.Graph.{Graph, Link, Ports, Order, In, IsGraph, LinkIsWithin, op_at}
+use Rattle.gp_base.specs.Membership.{In}
+use Rattle.hg_graph.specs.Graph.{Graph, Link, Ports, Order, IsGraph, LinkIsWithin, op_at}
 use Rattle.hg_graph.specs.Valid.{Edge, along_value, along_order, Path, edge, joined}
 use Rattle.hg_laws.proofs.Children.{get_in}
 use Rattle.hg_valid.specs.Walks.{row, Leads, Walk, once, first, IsClosed}

@@ -1,7 +1,8 @@
 -- The first children of a node.
 use Rattle.std.proofs.Common.{◌≡◌, ℕ, zero, suc, ◌≤◌, Bool, false, List, ◌∷◌, Some, None, slice_get, sym, ap, subst, arith, ◌∙◌}
 use Rattle.hg_ops.specs.Op.{Op, Types, Input, Output, ExitBlock, inner_ins, inner_outs}
-use Rattle.hg_graph.specs.Graph.{Graph, In, op_at, children}
+use Rattle.gp_base.specs.Membership.{In}
+use Rattle.hg_graph.specs.Graph.{Graph, op_at, children}
 use Rattle.hg_graph.specs.Valid.{HasBoundary, HasBlocks, is_boundary, is_exit}
 use Rattle.hg_valid.specs.Parts.{NoOtherBoundary, NoOtherExit, IsPairOf, IsEntryOf, AreFirstBlocks}
 use Rattle.hg_laws.proofs.Children.{get_in}

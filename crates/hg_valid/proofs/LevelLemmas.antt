@@ -1,7 +1,7 @@
 -- Levels and walks.
 use Rattle.std.proofs.Common.{◌≡◌, inl, inr, ℕ, ◌+◌, ◌<◌, ◌≤◌, List, length, get_or, sym, ap, subst, arith}
 use Rattle.std.proofs.lemmas.Bool.{cases_eq}
-use Rattle.hg_graph.specs.Graph.{In}
+use Rattle.gp_base.specs.Membership.{In}
 use Rattle.hg_valid.specs.Walks.{row, Leads, Walk, once, first, IsClosed}
 use Rattle.hg_valid.specs.Levels.{NeverRises, FallsBelow, NoneBefore}
 use Rattle.hg_valid.proofs.Searches.{place_in}

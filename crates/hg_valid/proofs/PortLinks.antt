@@ -2,7 +2,8 @@
 use Rattle.std.proofs.Common.{inl, inr, subst, ◌≡◌, ◌≢◌, ◌<◌, ◌+◌, ◌++◌, ◌∷◌, ◌∙◌, [], ℕ, suc, Bool, true, false, cond, List, Option, Some, None, length, slice_get, refl, sym, ap, arith}
 use Rattle.std.specs.Option.{option_and_then}
 use Rattle.std.proofs.lemmas.List.{length-append, append_assoc}
-use Rattle.hg_graph.specs.Graph.{Graph, Link, Ports, Order, Port, In, IsGraph, LinkIsWithin, is_port, feeder, taker, links_into, links_from}
+use Rattle.gp_base.specs.Membership.{In}
+use Rattle.hg_graph.specs.Graph.{Graph, Link, Ports, Order, Port, IsGraph, LinkIsWithin, is_port, feeder, taker, links_into, links_from}
 use Rattle.hg_graph.specs.NodeIndex.{numbers_where, numbers_into, numbers_from, is_into, is_from}
 use Rattle.hg_graph.specs.Sources.{source_of}
 use Rattle.hg_graph.proofs.Readers.{first-feeder}

@@ -6,7 +6,8 @@ use Rattle.std.proofs.lemmas.Bool.{cases_eq, cases_lt, false≢true}
 use Rattle.std.proofs.lemmas.List.{get_or-set_same, get_or-set_other, get_or_past}
 use Rattle.hg_ops.specs.Op as op
 use Rattle.hg_ops.specs.Op.{Op, is_effect, is_dataflow_container, fires}
-use Rattle.hg_graph.specs.Graph.{Graph, In, op_at, parent_at, children}
+use Rattle.gp_base.specs.Membership.{In}
+use Rattle.hg_graph.specs.Graph.{Graph, op_at, parent_at, children}
 use Rattle.hg_graph.specs.Ordered.{HasEffect, own, inside, IsOrdered}
 use Rattle.hg_graph.specs.Valid.{IsValid, Path, edge, joined, Edge, may_stand_in}
 use Rattle.hg_laws.proofs.Lists.{Distinct, Distinct-filter, Distinct-numbers}

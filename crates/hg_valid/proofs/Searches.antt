@@ -3,7 +3,7 @@ use Rattle.std.proofs.Common.{◌≡◌, ◌≢◌, ◌⊎◌, inl, inr, ℕ, ze
 use Rattle.std.proofs.lemmas.Bool.{cases_eq, cases_lt, cases_Bool}
 use Rattle.std.proofs.lemmas.List.{length-set, length-map, get_or-map, get_or_past, get_or_default, take_all, take_more, get_or-set_same, get_or-set_other, get_or_append_left, get_or_push, length_push}
 use Rattle.std.proofs.lemmas.List.Sums.{sum_by-set, count_by-le-length}
-use Rattle.hg_graph.specs.Graph.{In}
+use Rattle.gp_base.specs.Membership.{In}
 use Rattle.hg_laws.proofs.Looks.{eqb_no}
 use Rattle.hg_valid.specs.Walks.{row, Leads, Walk, once, first, IsClosed}
 use Rattle.hg_valid.specs.Chains.{mark, is_marked, HasCount, IsOpen, IsLeft, IsSearch, IsLast, HasGoneOn, HasCycle, AreCounted, left_count}

@@ -1,7 +1,8 @@
 -- The least target of a link that breaks a rule.
 use Rattle.std.proofs.Common.{◌≡◌, inl, inr, ℕ, ◌<◌, true, cond, List, [], ◌∷◌, ◌++◌, length, Option, Some, None, refl, sym, ap, subst, arith, ◌∙◌}
 use Rattle.std.proofs.lemmas.Bool.{cases_lt, lt-ltb, le-ltb}
-use Rattle.hg_graph.specs.Graph.{Graph, Link, Ports, Order, In, IsGraph, LinkIsWithin, op_at, parent_at}
+use Rattle.gp_base.specs.Membership.{In}
+use Rattle.hg_graph.specs.Graph.{Graph, Link, Ports, Order, IsGraph, LinkIsWithin, op_at, parent_at}
 use Rattle.hg_graph.specs.Valid.{Keeps, is_local}
 use Rattle.hg_ops.specs.Op.{input_ports}
 use Rattle.std.specs.Prelude.{slice_get}

@@ -1,6 +1,7 @@
 -- The rules that are tested link by link.
 use Rattle.std.specs.Prelude.{◌≡◌, ℕ, ◌<◌, nat_lt, if◌then◌else◌, List, Option, Some, None}
-use Rattle.hg_graph.specs.Graph.{Graph, Link, In}
+use Rattle.gp_base.specs.Membership.{In}
+use Rattle.hg_graph.specs.Graph.{Graph, Link}
 use Rattle.hg_valid.specs.declared.rule.LinkRule.{LinkRule}
 use Rattle.hg_valid.specs.declared.rule.LinkRule.TheVariants.{Joins, SameParent}
 use Rattle.hg_valid.specs.Parts.{target, LinkJoins, LinkStays}

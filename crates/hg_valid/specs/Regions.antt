@@ -1,7 +1,8 @@
 -- Whether the effect nodes of a region have different counts.
 use Rattle.std.specs.Prelude.{◌≡◌, ◌≢◌, ℕ, ◌+◌, ◌<◌, ◌≤◌, Bool, true, List, slice_index}
 use Rattle.hg_ops.specs.Op.{is_dataflow_container}
-use Rattle.hg_graph.specs.Graph.{Graph, In, op_at, children}
+use Rattle.gp_base.specs.Membership.{In}
+use Rattle.hg_graph.specs.Graph.{Graph, op_at, children}
 use Rattle.hg_valid.specs.Chains.{is_marked}
 
 -- marked children have different counts

@@ -5,7 +5,8 @@ use Rattle.gp_base.specs.Run.{Returned}
 use Rattle.gp_base.specs.World.{World, start, is_live}
 use Rattle.hg_ops.specs.GraphType.{GraphType, is_linear}
 use Rattle.hg_ops.specs.Op.{Types, FuncDefn}
-use Rattle.hg_graph.specs.Graph.{Graph, In, op_at}
+use Rattle.gp_base.specs.Membership.{In}
+use Rattle.hg_graph.specs.Graph.{Graph, op_at}
 use Rattle.hg_graph.specs.Moments.{HasOnePlace, EachMoment, IsProper, ReturnsItsQubits, EndsWell, noted_run, notes_of}
 use Rattle.hg_graph.specs.Run.{graph_run}
 use Rattle.hg_graph.specs.Value.{Value}

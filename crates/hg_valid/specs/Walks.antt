@@ -1,6 +1,6 @@
 -- Walks over lists of successors: the list at place a has the nodes to which node a leads.
 use Rattle.std.specs.Prelude.{ℕ, ◌<◌, List, [], length, slice_index_or}
-use Rattle.hg_graph.specs.Graph.{In}
+use Rattle.gp_base.specs.Membership.{In}
 
 -- the nodes to which a node leads
 abbrev pub row : List (List ℕ) → ℕ → List ℕ

@@ -1,7 +1,7 @@
 use Rattle.std.proofs.Common.{◌≡◌, ◌<◌, ◌++◌, ◌∷◌, [], ℕ, List, Bool, inl, inr, length, get_or, slice_set, subst, sym, arith, false, true, ◌∙◌, ap}
 use Rattle.std.proofs.lemmas.Bool.{cases_eq}
 use Rattle.std.proofs.lemmas.List.{get_or_read}
-use Rattle.hg_graph.specs.Graph.{In}
+use Rattle.gp_base.specs.Membership.{In}
 use Rattle.hg_valid.specs.Walks.{row, Leads}
 use Rattle.hg_valid.specs.Chains.{is_marked}
 use Rattle.hg_valid.specs.Reach.{IsReach, HasGrown}

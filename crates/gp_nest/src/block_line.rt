@@ -187,36 +187,18 @@ fn go_on(
             open_new(alloc, frame, line, Header::While(line, test), true, behind)
         }
         LineForm::For(name, count, behind) => {
-            open_new(
-                alloc,
-                frame,
-                line,
-                Header::For(line, name, count),
-                true,
-                behind,
-            )
+            let header = Header::For(line, name, count);
+            open_new(alloc, frame, line, header, true, behind)
         }
         LineForm::If(test, behind) => {
+            let header = Header::Branch(line, test);
             let in_loop = frame.opening.in_loop;
-            open_new(
-                alloc,
-                frame,
-                line,
-                Header::Branch(line, test),
-                in_loop,
-                behind,
-            )
+            open_new(alloc, frame, line, header, in_loop, behind)
         }
         LineForm::Elif(test, behind) => {
+            let header = Header::Branch(line, test);
             let level = frame.reached as u64 + 1;
-            open_other(
-                alloc,
-                frame,
-                line,
-                Header::Branch(line, test),
-                level,
-                behind,
-            )
+            open_other(alloc, frame, line, header, level, behind)
         }
         LineForm::Else(behind) => {
             let level = frame.reached as u64;

@@ -7,9 +7,6 @@ pub mod FirstChildren
 pub mod Named
 pub mod Joined
 pub mod Statics
-pub mod Searches
 pub mod Edges
 pub mod EffectNodes
 pub mod RegionCounts
-pub mod Reached
-pub mod LevelLemmas

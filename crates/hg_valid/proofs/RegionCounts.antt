@@ -15,13 +15,13 @@ use Rattle.hg_laws.proofs.Known.{Known, known}
 use Rattle.hg_laws.proofs.Wires.{edge_cases}
 use Rattle.hg_laws.proofs.Main.{picks_change_nothing_lem}
 use Rattle.hg_laws.proofs.Children.{child_is, is_child, kid_is, is_kid}
-use Rattle.hg_valid.specs.Walks.{Walk, once, first, IsClosed}
+use Rattle.hg_paths.specs.Walks.{Walk, once, first, IsClosed}
+use Rattle.hg_paths.specs.Chains.{is_marked, mark, AreCounted, HasCycle}
+use Rattle.hg_paths.proofs.WalkLemmas.{place_in, in_place, walk_on}
 use Rattle.hg_valid.specs.Successors.{AreSuccessors}
 use Rattle.hg_valid.specs.Effects.{AreEffects}
-use Rattle.hg_valid.specs.Chains.{is_marked, mark, AreCounted, HasCycle}
 use Rattle.hg_valid.specs.SameRuns.{RunsAreSame}
 use Rattle.hg_valid.specs.Regions.{AreApart, HaveSame, HasSame, ApartBelow, IsSeen, child_at}
-use Rattle.hg_valid.proofs.Searches.{place_in, in_place, walk_on}
 use Rattle.hg_valid.proofs.Edges.{path_of, walk_of, closed_successors}
 
 -- ---- the children of a region

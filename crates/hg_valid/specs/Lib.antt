@@ -9,11 +9,7 @@ pub mod RuleView
 pub mod Runs
 pub mod Signatures
 pub mod Tables
-pub mod Walks
-pub mod Chains
 pub mod Successors
 pub mod Effects
 pub mod Regions
 pub mod SameRuns
-pub mod Reach
-pub mod Levels

@@ -6,9 +6,9 @@ ghost use Rattle.hg_graph.specs.Valid.{NoCycle};
 ghost use Rattle.hg_graph.specs.View.{number_of};
 ghost use Rattle.hg_valid.specs.Broken.{EarlierHold, FirstToBreak};
 
-use crate::reach::first_back;
 use crate::successors::successors_of;
 use hg_graph::{Graph, NodeId};
+use hg_paths::first_back;
 use std::alloc::{AllocError, Global};
 
 /// The least node on a cycle of value and order links; `None` exactly where no node is on one.

@@ -4,10 +4,8 @@
 mod ancestors;
 mod blocks;
 mod broken;
-mod chains;
 mod cycle;
 mod effects;
-mod levels;
 mod links;
 mod names;
 mod nodes;
@@ -15,7 +13,6 @@ mod op_tests;
 pub mod ordered;
 mod places;
 mod port_links;
-mod reach;
 mod regions;
 mod rows;
 mod rule;

@@ -8,12 +8,12 @@ ghost use Rattle.hg_graph.specs.Ordered.{IsOrdered};
 ghost use Rattle.hg_valid.specs.Regions.{AreApart, HaveSame, HasSame, ApartBelow, child_at};
 ghost use Rattle.hg_valid.specs.SameRuns.{RunsAreSame};
 
-use crate::chains::longest_chains;
 use crate::effects::effects_of;
 use crate::op_tests::is_dataflow_container;
 use crate::successors::successors_of;
 use crate::valid::Valid;
 use hg_graph::{Graph, NodeId};
+use hg_paths::longest_chains;
 use std::alloc::{AllocError, Global};
 
 /// Whether in each region any two effect nodes are joined by a path of value and order links. An effect node has an effect

@@ -4,16 +4,17 @@ ghost use Rattle.std.specs.Prelude.{◌≡◌, ℕ, ◌+◌, ◌<◌, [], ◌∷
 ghost use Rattle.hg_ops.specs.Op.{ins_of};
 ghost use Rattle.hg_ops.specs.OpView.{op_view};
 ghost use Rattle.hg_graph.specs.Graph.{IsGraph};
+ghost use Rattle.hg_paths.specs.Walks.{row};
 ghost use Rattle.hg_valid.specs.Successors.{AreSuccessors, HasEdges};
-ghost use Rattle.hg_valid.specs.Walks.{row};
 
 use gp_base::Sequence;
 use hg_graph::{Graph, Link, NodeId};
 use hg_ops::{OpKind, input_count};
+use hg_paths::Successors;
 use std::alloc::{AllocError, Global};
 
 /// A list for each node, with the nodes to which a value link or an order link leads from it.
-pub(crate) fn successors_of(alloc: Global, graph: &Graph) -> Result<Vec<Sequence<u64>>, AllocError>
+pub(crate) fn successors_of(alloc: Global, graph: &Graph) -> Result<Successors, AllocError>
     ensures { IfOk result (λ lists. AreSuccessors graph.now lists.items) }
 {
     let mut lists = no_successors(alloc, graph.node_count())?;
@@ -25,7 +26,7 @@ pub(crate) fn successors_of(alloc: Global, graph: &Graph) -> Result<Vec<Sequence
 
 // As many empty lists.
 #[tactic(auto, using(hg_ops::proofs::Copies::replicate_next))]
-fn no_successors(alloc: Global, count: u64) -> Result<Vec<Sequence<u64>>, AllocError>
+fn no_successors(alloc: Global, count: u64) -> Result<Successors, AllocError>
     ensures { IfOk result (λ lists. lists.items ≡ replicate count []) }
 {
     let mut lists = Vec::new(alloc);
@@ -36,7 +37,7 @@ fn no_successors(alloc: Global, count: u64) -> Result<Vec<Sequence<u64>>, AllocE
 }
 
 // Adds link number `k` where it is a value link or an order link.
-fn add_link(graph: &Graph, k: u64, lists: &mut Vec<Sequence<u64>>) -> Result<(), AllocError>
+fn add_link(graph: &Graph, k: u64, lists: &mut Successors) -> Result<(), AllocError>
     requires graph { IsGraph graph.now }
     requires link_in { k < length graph.now.links }
     requires before { HasEdges graph.now k lists.old.items }
@@ -55,7 +56,7 @@ fn add_link(graph: &Graph, k: u64, lists: &mut Vec<Sequence<u64>>) -> Result<(),
 }
 
 // Adds a node to those to which another leads.
-fn push_to(lists: &mut Vec<Sequence<u64>>, from: NodeId, to: NodeId) -> Result<(), AllocError>
+fn push_to(lists: &mut Successors, from: NodeId, to: NodeId) -> Result<(), AllocError>
     requires { from.0 < length lists.old.items }
     ensures { OnOk result (lists.new.items ≡ slice_set lists.old.items from.0 (row lists.old.items from.0 ++ to.0 ∷ [])) }
 {

@@ -1,7 +1,7 @@
 use Rattle.std.proofs.Common.{ℕ, List, sym, subst}
 use Rattle.hg_graph.specs.Valid.{IsValid, Places}
-use Rattle.hg_valid.specs.Walks.{IsClosed}
-use Rattle.hg_valid.specs.Chains.{HasCycle}
+use Rattle.hg_paths.specs.Walks.{IsClosed}
+use Rattle.hg_paths.specs.Chains.{HasCycle}
 use Rattle.hg_valid.proofs.Edges.{closed_successors}
 use Rattle.hg_valid.proofs.RegionCounts.{HasTested, tested_order, tested_runs, no_cycle}
 use Rattle.hg_valid.proofs.ordered.is_ordered.Goals as goal

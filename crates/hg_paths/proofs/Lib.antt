@@ -1,0 +1,4 @@
+pub mod WalkLemmas
+mod Searches
+mod Reached
+mod LevelLemmas

@@ -1,0 +1,4 @@
+pub mod Walks
+pub mod Chains
+pub mod Reach
+pub mod Levels

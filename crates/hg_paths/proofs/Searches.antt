@@ -1,9 +1,8 @@
 -- The steps of a search for the greatest counts.
-use Rattle.std.proofs.Common.{◌≡◌, ◌≢◌, ◌⊎◌, inl, inr, ℕ, zero, suc, ◌+◌, ◌-◌, ◌<◌, ◌≤◌, Bool, true, false, cond, eqb, List, [], ◌∷◌, ◌++◌, length, get_or, set, sym, ap, subst, refl, ◌∙◌, arith, sum, take, map}
+use Rattle.std.proofs.Common.{◌≡◌, ◌≢◌, ◌⊎◌, inl, inr, ℕ, suc, ◌+◌, ◌-◌, ◌<◌, ◌≤◌, Bool, true, false, cond, eqb, List, [], ◌∷◌, ◌++◌, length, get_or, set, sym, ap, subst, refl, ◌∙◌, arith, sum, take, map}
 use Rattle.std.proofs.lemmas.Bool.{cases_eq, cases_lt, cases_Bool, ne_eqb}
 use Rattle.std.proofs.lemmas.List.{length-set, length-map, get_or-map, get_or_past, get_or_default, take_all, take_more, get_or-set_same, get_or-set_other, get_or_append_left, get_or_push, length_push}
 use Rattle.std.proofs.lemmas.List.Sums.{sum_by-set, count_by-le-length}
-use Rattle.gp_base.specs.Membership.{In}
 use Rattle.hg_paths.specs.Walks.{row, Leads, Walk, once, first, IsClosed}
 use Rattle.hg_paths.specs.Chains.{mark, is_marked, HasCount, IsOpen, IsLeft, IsSearch, IsLast, HasGoneOn, HasCycle, AreCounted, left_count}
 use Rattle.hg_paths.proofs.WalkLemmas.{place_in, in_place, walk_on}

@@ -8,3 +8,6 @@ mod reach;
 
 pub use chains::{Successors, longest_chains};
 pub use reach::first_back;
+
+#[cfg(test)]
+mod tests;

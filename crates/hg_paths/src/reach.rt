@@ -12,10 +12,7 @@ use gp_components::component_numbers;
 use std::alloc::{AllocError, Global};
 
 /// The least node from which a walk leads back to it; `None` exactly where there is none. An error is want of memory.
-pub fn first_back(
-    alloc: Global,
-    successors: &[Sequence<u64>],
-) -> Result<Option<u64>, AllocError>
+pub fn first_back(alloc: Global, successors: &[Sequence<u64>]) -> Result<Option<u64>, AllocError>
     requires { IsClosed successors.now }
     ensures { IfOk result (λ first. MatchOption first (NoneBack successors.now) (IsFirstBack successors.now)) }
 {

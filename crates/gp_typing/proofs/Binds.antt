@@ -19,8 +19,7 @@ use Rattle.gp_typing.specs.declared.fault.TypeFault.{TypeFault}
 use Rattle.gp_typing.specs.declared.fault.TypeFault.TheVariants.{Memory, Mismatch, UnknownName}
 use Rattle.gp_typing.specs.CallView.{callee_in, tag_of}
 use Rattle.gp_typing.specs.Checks.{Checked, ◌>>=◌, check, found, Answers}
-use Rattle.gp_typing.specs.Environment.{Names, Environment}
-use Rattle.gp_typing.specs.EnvironmentView.{environment_view}
+use Rattle.gp_environment.specs.Environment.{Names, Environment}
 use Rattle.gp_typing.specs.Expressions.{Value, Values, Arguments, Callee, valued, before, untagged, has_type, tupled, takes_tag, is_tag, called, tags, typing, values_of, arguments_of}
 use Rattle.gp_typing.specs.ExpressionView.{typed_in, valued_in, values_in}
 use Rattle.gp_scope.specs.Known.{Known}
@@ -107,7 +106,7 @@ boolean-typed C e b is = ap (λ x. typed_in C (expression x)) (is ∙ sym (varia
 pub text-typed : (C : Context) (e : Expr) (w : List ℕ) → e ≡ variants.Text w → typed_in C (expression e) ≡ Err (Mismatch C.line)
 text-typed C e w is = ap (λ x. typed_in C (expression x)) (is ∙ sym (variants.rolls-Text w)) ∙ ap (typed_in C) (fold-roll-Expr Expression expression_step (Expr-F.Text w))
 
-pub place-typed : (C : Context) (e : Expr) (p : Place) → e ≡ variants.Place p → typed_in C (expression e) ≡ place_of C.names.now (environment_view C.environment.now) C.line p
+pub place-typed : (C : Context) (e : Expr) (p : Place) → e ≡ variants.Place p → typed_in C (expression e) ≡ place_of C.names.now C.environment.now C.line p
 place-typed C e p is = ap (λ x. typed_in C (expression x)) (is ∙ sym (variants.rolls-Place p)) ∙ ap (typed_in C) (fold-roll-Expr Expression expression_step (Expr-F.Place p))
 
 pub minus-typed : (C : Context) (e : Expr) (a : Box Expr Global) → e ≡ variants.Neg a → typed_in C (expression e) ≡ (valued_in C (expression a.value) >>= λ x. minus_of C.line x)
@@ -132,7 +131,7 @@ pub tuple-typed : (C : Context) (e : Expr) (es : Vec Expr Global) → e ≡ vari
 tuple-typed C e es is = ap (λ x. typed_in C (expression x)) (is ∙ sym (variants.rolls-Tuple es)) ∙ ap (typed_in C) (fold-roll-Expr Expression expression_step (Expr-F.Tuple es))
 
 pub call-typed : (C : Context) (e : Expr) (name : List ℕ) (es : Vec Expr Global) → e ≡ variants.Call name es → typed_in C (expression e) ≡ (found (callee_in C name) (UnknownName C.line)
-    >>= λ callee. arguments_of (known_in C.scope.now) C.names.now (environment_view C.environment.now) C.line (takes_tag callee) (expressions es.items)
+    >>= λ callee. arguments_of (known_in C.scope.now) C.names.now C.environment.now C.line (takes_tag callee) (expressions es.items)
     >>= λ arguments. called C.line name callee arguments)
 call-typed C e name es is = ap (λ x. typed_in C (expression x)) (is ∙ sym (variants.rolls-Call name es)) ∙ ap (typed_in C) (fold-roll-Expr Expression expression_step (Expr-F.Call name es))
 
@@ -196,7 +195,7 @@ module _ (K : Known) (N : Names) (E : Environment) (line : LineNo) where
 -- ---- calls
 
 abbrev arguments-of-call : Context → Bool → List Expr → Checked Arguments
-arguments-of-call C tagged xs = arguments_of (known_in C.scope.now) C.names.now (environment_view C.environment.now) C.line tagged (expressions xs)
+arguments-of-call C tagged xs = arguments_of (known_in C.scope.now) C.names.now C.environment.now C.line tagged (expressions xs)
 
 module _ (C : Context) (e : Expr) (name : List ℕ) (es : Vec Expr Global) (is : e ≡ variants.Call name es) where
   pub call-none : None ≡ callee_in C name → typed_in C (expression e) ≡ Err (UnknownName C.line)
@@ -213,7 +212,7 @@ module _ (C : Context) (e : Expr) (name : List ℕ) (es : Vec Expr Global) (is :
 
     in-steps : typed_in C (expression e) ≡ ((tag_of C.line (takes_tag callee) (expressions es.items) >>= after-tag) >>= λ arguments. called C.line name callee arguments)
     in-steps = found-callee ∙ ap (λ m. m >>= λ arguments. called C.line name callee arguments)
-        (arguments-in (known_in C.scope.now) C.names.now (environment_view C.environment.now) C.line (takes_tag callee) es.items)
+        (arguments-in (known_in C.scope.now) C.names.now C.environment.now C.line (takes_tag callee) es.items)
 
     pub call-no-tag : (f : TypeFault) → tag_of C.line (takes_tag callee) (expressions es.items) ≡ Err f → typed_in C (expression e) ≡ Err f
     call-no-tag f h = in-steps ∙ ap (λ m. (m >>= after-tag) >>= λ arguments. called C.line name callee arguments) h

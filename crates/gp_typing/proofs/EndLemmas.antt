@@ -5,7 +5,7 @@ use Rattle.gp_tree.specs.Expression.{Expression}
 use Rattle.gp_types.specs.Types as types
 use Rattle.gp_types.specs.Types.{Ty, Tys}
 use Rattle.gp_types.specs.Same.{same_type, same_types}
-use Rattle.gp_typing.specs.Environment.{Environment, common, join, join_reached}
+use Rattle.gp_environment.specs.Environment.{Environment, common, join, join_reached}
 use Rattle.gp_typing.specs.Statements.{is_true, after_while, Ends, after}
 
 pub after_while_is : (test : Expression) (e : Environment) (breaks : Option Environment)

@@ -1,5 +1,3 @@
-pub mod Names
-pub mod Environments
 pub mod Rows
 pub mod Binds
 pub mod EndLemmas

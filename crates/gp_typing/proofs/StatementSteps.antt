@@ -18,14 +18,11 @@ use Rattle.gp_tree.specs.Statement.{Statement, Statements, statement, statements
 use Rattle.gp_tree.specs.TypeExpression.{type_expression}
 use Rattle.gp_types.specs.Signature.{signature_view}
 use Rattle.gp_types.specs.Types as types
-use Rattle.gp_types.specs.Types.{Ty}
-use Rattle.gp_types.specs.declared.ty.Ty as declared_ty
 use Rattle.gp_typing.specs.declared.fault.TypeFault.{TypeFault}
 use Rattle.gp_typing.specs.declared.fault.TypeFault.TheVariants.{Memory, Unreachable, BorrowedAssigned}
 use Rattle.gp_typing.specs.declared.frame.Frame as declared_frame
 use Rattle.gp_typing.specs.Checks.{Checked, ◌>>=◌, found, Answers}
-use Rattle.gp_typing.specs.Environment.{Environment, NameType, put, usable}
-use Rattle.gp_typing.specs.EnvironmentView.{environment_view}
+use Rattle.gp_environment.specs.Environment.{Environment, NameType, put, usable}
 use Rattle.gp_typing.specs.Functions.{is_borrowed_among}
 use Rattle.gp_scope.specs.Known.{Known}
 use Rattle.gp_typing.specs.Pieces.{tested, counted, named, ended_annotated, ended_if, ended_while, ended_for, ended_next, continued}
@@ -133,20 +130,6 @@ module _ (frame : declared_frame.Frame) (e : Environment) (s : Stmt) (line : Lin
       (λ n i. block_in frame (Some i) (statements body.items) >>= λ b. ended_for line name n e b)
 
 -- ---- where a compound statement ends
-
--- a test, a count and a block of the same environment
-module _ (frame : declared_frame.Frame) (line : LineNo) (ts xs : List (Option declared_ty.Ty)) (same : xs ≡ ts) where
-  pub test_at : (test : Expr) (m : Checked TypedExpression) → tested line (value_in frame (environment_view xs) line (expression test)) ≡ m
-      → tested line (value_in frame (environment_view ts) line (expression test)) ≡ m
-  test_at test m h = ap (λ (zs : List (Option declared_ty.Ty)). tested line (value_in frame (environment_view zs) line (expression test))) (sym same) ∙ h
-
-  pub count_at : (count : Expr) (m : Checked TypedExpression) → counted line (value_in frame (environment_view xs) line (expression count)) ≡ m
-      → counted line (value_in frame (environment_view ts) line (expression count)) ≡ m
-  count_at count m h = ap (λ (zs : List (Option declared_ty.Ty)). counted line (value_in frame (environment_view zs) line (expression count))) (sym same) ∙ h
-
-  pub named_at : (name : List ℕ) (ty : Ty) (m : Checked Environment) → named (frame_view frame) (environment_view xs) line name ty ≡ m
-      → named (frame_view frame) (environment_view ts) line name ty ≡ m
-  named_at name ty m h = ap (λ (zs : List (Option declared_ty.Ty)). named (frame_view frame) (environment_view zs) line name ty) (sym same) ∙ h
 
 pub block_at : (frame : declared_frame.Frame) (e f : Environment) (block other : List Stmt) (m : Checked BlockTyping) → f ≡ e → other ≡ block
     → block_in frame (Some f) (statements other) ≡ m → block_in frame (Some e) (statements block) ≡ m

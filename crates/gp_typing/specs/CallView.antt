@@ -15,7 +15,6 @@ use Rattle.gp_typing.specs.declared.fault.TypeFault.TheVariants.{Mismatch}
 use Rattle.gp_typing.specs.declared.typed.TypedExpr as declared_expr
 use Rattle.gp_typing.specs.declared.value.Values as declared_row
 use Rattle.gp_typing.specs.Checks.{Checked, ◌>>=◌, check}
-use Rattle.gp_typing.specs.EnvironmentView.{environment_view}
 use Rattle.gp_typing.specs.Expressions as spec
 use Rattle.gp_typing.specs.Expressions.{Callee, Arguments, is_tag, callee_of}
 use Rattle.gp_typing.specs.ExpressionView.{values_view}
@@ -30,7 +29,7 @@ callee_view (callee.BuiltIn b) = spec.BuiltIn b
 
 -- what a call of this name calls in this context
 abbrev pub callee_in : Context → List ℕ → Option Callee
-callee_in context name = callee_of (known_in context.scope.now) context.names.now (environment_view context.environment.now) name
+callee_in context name = callee_of (known_in context.scope.now) context.names.now context.environment.now name
 
 abbrev pub arguments_view : Option (List ℕ) → declared_row.Values → Arguments
 arguments_view tag values = record { tag = tag; values = values_view values }

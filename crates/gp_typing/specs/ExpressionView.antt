@@ -7,7 +7,6 @@ use Rattle.gp_typing.specs.declared.context.Context.{Context}
 use Rattle.gp_typing.specs.declared.value.Value as declared
 use Rattle.gp_typing.specs.declared.value.Values as declared_row
 use Rattle.gp_typing.specs.Checks.{Checked}
-use Rattle.gp_typing.specs.EnvironmentView.{environment_view}
 use Rattle.gp_typing.specs.Expressions as spec
 use Rattle.gp_typing.specs.Expressions.{Value, Values, typing, valued}
 use Rattle.gp_scope.specs.ScopeView.{known_in}
@@ -22,7 +21,7 @@ values_view vs = record { trees = expressions_view vs.exprs.items; types = tys_o
 
 -- an expression in this context
 abbrev pub typed_in : Context → Expression → Checked TypedExpression
-typed_in context x = typing (known_in context.scope.now) context.names.now (environment_view context.environment.now) context.line x
+typed_in context x = typing (known_in context.scope.now) context.names.now context.environment.now context.line x
 
 -- an expression in this context where a value is needed
 abbrev pub valued_in : Context → Expression → Checked Value
@@ -30,4 +29,4 @@ valued_in context x = valued context.line (typed_in context x)
 
 -- expressions in this context that all stand where values are needed
 abbrev pub values_in : Context → Expressions → Checked Values
-values_in context xs = spec.values_of (known_in context.scope.now) context.names.now (environment_view context.environment.now) context.line xs
+values_in context xs = spec.values_of (known_in context.scope.now) context.names.now context.environment.now context.line xs

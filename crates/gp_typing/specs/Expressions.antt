@@ -20,7 +20,7 @@ use Rattle.gp_types.specs.declared.builtins.BuiltinType.{BuiltinType}
 use Rattle.gp_types.specs.declared.builtins.BuiltinType.TheVariants as built_in_type
 use Rattle.gp_typing.specs.declared.fault.TypeFault.TheVariants.{UnknownName, NotOnEveryPath, Mismatch, WrongCount, TooBigType}
 use Rattle.gp_typing.specs.Checks.{Checked, ◌>>=◌, check, found}
-use Rattle.gp_typing.specs.Environment.{Names, Environment, type_of}
+use Rattle.gp_environment.specs.Environment.{Names, Environment, type_of}
 use Rattle.gp_scope.specs.Known.{Known}
 use Rattle.gp_typing.specs.Typed as typed
 use Rattle.gp_typing.specs.Typed.{TypedExpression, TypedExpressions, TypedKind, of_type}

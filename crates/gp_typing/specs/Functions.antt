@@ -6,9 +6,9 @@ use Rattle.gp_types.specs.declared.signature.Mode.TheVariants.{Borrowed}
 use Rattle.gp_types.specs.Signature.{Signature, Parameter}
 use Rattle.gp_typing.specs.declared.fault.TypeFault.TheVariants.{UnknownName, TooManyPlaces, MissingReturn}
 use Rattle.gp_typing.specs.Checks.{Checked, ◌>>=◌, check, found}
-use Rattle.gp_typing.specs.Environment.{Names, Environment, put, is_within}
+use Rattle.gp_environment.specs.Environment.{Names, Environment, nothing_usable, put, is_within}
 use Rattle.gp_scope.specs.Known.{Known}
-use Rattle.gp_typing.specs.Locals.{locals}
+use Rattle.gp_environment.specs.Locals.{locals}
 use Rattle.gp_typing.specs.Statements.{Frame, block_typing, block_of}
 use Rattle.gp_typing.specs.Typed.{TypedFunction}
 
@@ -26,9 +26,6 @@ names_of f s = locals (map Parameter.name s.params) f.body
 
 abbrev pub frame_of : FunctionDefinition → Signature → Frame
 frame_of f s = record { names = names_of f s; result = s.result; is_borrowed = is_borrowed_among s.params }
-
-abbrev pub nothing_usable : Names → Environment
-nothing_usable names = map (λ name. None) names
 
 abbrev pub with_parameters : Names → Environment → List Parameter → Environment
 with_parameters names e [] = e

@@ -1,6 +1,4 @@
 pub mod Checks
-pub mod Environment
-pub mod Locals
 pub mod Typed
 pub mod Expressions
 pub mod ExpressionView
@@ -9,7 +7,6 @@ pub mod Operations
 pub mod Statements
 pub mod Functions
 pub mod View
-pub mod EnvironmentView
 pub mod StatementView
 pub mod Pieces
 pub mod FunctionView

@@ -1,18 +1,15 @@
 -- The data that statements, blocks and their ends are in memory while they are checked.
-use Rattle.std.specs.Prelude.{Vec, Option, option_map}
-use Rattle.std.specs.declared.alloc.Global.{Global}
+use Rattle.std.specs.Prelude.{Option}
 use Rattle.gp_base.specs.declared.name.LineNo.{LineNo}
 use Rattle.gp_tree.specs.Expression.{Expression}
 use Rattle.gp_tree.specs.Statement.{Statement, Statements}
-use Rattle.gp_types.specs.declared.ty.Ty as declared_ty
 use Rattle.gp_types.specs.Signature.{signature_view}
 use Rattle.gp_typing.specs.declared.ends.Ends as declared_ends
 use Rattle.gp_typing.specs.declared.ends.StatementTyping as declared_statement
 use Rattle.gp_typing.specs.declared.ends.BlockTyping as declared_block
 use Rattle.gp_typing.specs.declared.frame.Frame as declared_frame
 use Rattle.gp_typing.specs.Checks.{Checked}
-use Rattle.gp_typing.specs.Environment.{Environment}
-use Rattle.gp_typing.specs.EnvironmentView.{environment_view}
+use Rattle.gp_environment.specs.Environment.{Environment}
 use Rattle.gp_typing.specs.Expressions.{Value, valued, typing}
 use Rattle.gp_typing.specs.Functions.{is_borrowed_among}
 use Rattle.gp_scope.specs.Known.{Known}
@@ -31,12 +28,8 @@ frame_view f = record {
 abbrev pub known_for : declared_frame.Frame → Known
 known_for f = known_in f.scope.now
 
--- an environment where a path leads there
-abbrev pub reached_view : Option (Vec (Option declared_ty.Ty) Global) → Option Environment
-reached_view e = option_map (λ e. environment_view e.items) e
-
 abbrev pub ends_view : declared_ends.Ends → Ends
-ends_view e = record { next = reached_view e.next; breaks = reached_view e.breaks; continues = reached_view e.continues }
+ends_view e = record { next = e.next; breaks = e.breaks; continues = e.continues }
 
 abbrev pub statement_view : declared_statement.StatementTyping → StatementTyping
 statement_view s = record { kind = statement_kind_view s.kind; ends = ends_view s.ends }

@@ -13,7 +13,7 @@ use Rattle.gp_types.specs.Types.{Ty, Tys}
 use Rattle.gp_types.specs.Same.{same_type}
 use Rattle.gp_typing.specs.declared.fault.TypeFault.TheVariants.{Mismatch, WrongCount, TooManyPlaces, Unreachable, LoopChangesType, BorrowedAssigned}
 use Rattle.gp_typing.specs.Checks.{Checked, ◌>>=◌, check, found}
-use Rattle.gp_typing.specs.Environment.{Names, Environment, put, join_reached, keeps_reached, is_within, usable}
+use Rattle.gp_environment.specs.Environment.{Names, Environment, put, join_reached, keeps_reached, is_within, usable}
 use Rattle.gp_scope.specs.Known.{Known}
 use Rattle.gp_typing.specs.Expressions.{valued, typing, place_type, is_int, is_bool}
 use Rattle.gp_typing.specs.Typed as typed

@@ -3,7 +3,6 @@ use Rattle.std.specs.Prelude.{List, [], ◌∷◌, map, option_map}
 use Rattle.gp_types.specs.View.{ty_view}
 use Rattle.gp_types.specs.Signature.{signature_view}
 use Rattle.gp_tree.specs.TypeExpression.{type_expression}
-use Rattle.gp_typing.specs.declared.typed.NameType as name_type
 use Rattle.gp_typing.specs.declared.typed.TypedExpr as expression
 use Rattle.gp_typing.specs.declared.typed.TypedKind.TheOpen.{TypedExpr-F, TypedKind-F}
 use Rattle.gp_typing.specs.declared.typed.TypedKind as kind
@@ -12,7 +11,7 @@ use Rattle.gp_typing.specs.declared.typed.TypedStmtKind.TheOpen.{TypedStmt-F, Ty
 use Rattle.gp_typing.specs.declared.typed.TypedStmtKind as statement_kind
 use Rattle.gp_typing.specs.declared.typed.TypedBlock as block
 use Rattle.gp_typing.specs.declared.typed.TypedFunction as function
-use Rattle.gp_typing.specs.Environment.{NameType}
+use Rattle.gp_environment.specs.View.{name_view}
 use Rattle.gp_typing.specs.Typed.{TypedExpression, of_type, TypedKind, TypedExpressions, no_expressions, with_expression, TypedStatement, behind, TypedStatementKind, TypedStatements, no_statements, with_statement, TypedBlock, TypedFunction}
 use Rattle.gp_typing.specs.Typed as typed
 
@@ -47,9 +46,6 @@ kind_view = kind.fold-TypedKind TypedKind TypedExpression kind_step expression_s
 
 abbrev pub expressions_view : List expression.TypedExpr → TypedExpressions
 expressions_view es = expressions_of (map expression_view es)
-
-abbrev pub name_view : name_type.NameType → NameType
-name_view n = record { name = n.name; ty = ty_view n.ty }
 
 abbrev pub statements_of : List TypedStatement → TypedStatements
 statements_of [] = no_statements

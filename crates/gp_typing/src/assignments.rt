@@ -4,21 +4,20 @@ ghost use Rattle.std.specs.Prelude.{◌≡◌, IsTrue, length, map};
 ghost use Rattle.gp_types.specs.Types.{tys_of};
 ghost use Rattle.gp_types.specs.View.{ty_view};
 ghost use Rattle.gp_typing.specs.Checks.{Answers};
-ghost use Rattle.gp_typing.specs.EnvironmentView.{environment_view};
 ghost use Rattle.gp_typing.specs.Pieces.{named};
 ghost use Rattle.gp_typing.specs.Statements as spec;
 ghost use Rattle.gp_typing.specs.StatementView.{frame_view};
 
-use crate::environment::{Environment, put};
 use crate::fault::TypeFault;
 use crate::frame::{Frame, is_borrowed};
 use crate::places::place_type;
 use gp_base::LineNo;
+use gp_environment::Environment;
 use gp_tree::{Place, Targets};
 use gp_types::{Ty, copy, same_type};
 use std::alloc::Global;
 
-/// Gives a name this type; a borrowed parameter is `BorrowedAssigned`. Takes no memory.
+/// Gives a name this type; a borrowed parameter is `BorrowedAssigned`.
 pub fn assign_name(
     frame: &Frame<'_>,
     environment: &mut Environment,
@@ -26,18 +25,18 @@ pub fn assign_name(
     name: &str,
     ty: Ty,
 ) -> Result<(), TypeFault>
-    ensures { Answers (λ _. environment_view environment.new.items) result
-        (named (frame_view frame.now) (environment_view environment.old.items) line name.now (ty_view ty)) }
+    ensures { Answers (λ _. environment.new) result
+        (named (frame_view frame.now) environment.old line name.now (ty_view ty)) }
 {
     if is_borrowed(frame.signature.params.as_slice(), name) {
         return Err(TypeFault::BorrowedAssigned(line));
     }
-    put(frame.names, environment, name, ty);
+    environment.put(frame.names, name, ty)?;
     Ok(())
 }
 
 /// Assigns a value of this type to a place: a whole name takes the type, and is `BorrowedAssigned` where it is a borrowed
-/// parameter; a field keeps its type. Takes no memory.
+/// parameter; a field keeps its type.
 pub fn assign_place(
     frame: &Frame<'_>,
     environment: &mut Environment,
@@ -45,8 +44,8 @@ pub fn assign_place(
     place: &Place,
     ty: Ty,
 ) -> Result<(), TypeFault>
-    ensures { Answers (λ _. environment_view environment.new.items) result
-        (spec.assigned_place (frame_view frame.now) (environment_view environment.old.items) line place.now (ty_view ty)) }
+    ensures { Answers (λ _. environment.new) result
+        (spec.assigned_place (frame_view frame.now) environment.old line place.now (ty_view ty)) }
 {
     if place.fields.as_slice().is_empty() {
         return assign_name(frame, environment, line, place.name.as_str(), ty);
@@ -68,8 +67,8 @@ pub fn assign_targets(
     targets: &Targets,
     ty: &Ty,
 ) -> Result<(), TypeFault>
-    ensures { Answers (λ _. environment_view environment.new.items) result
-        (spec.assigned (frame_view frame.now) (environment_view environment.old.items) line targets.now (ty_view ty.now)) }
+    ensures { Answers (λ _. environment.new) result
+        (spec.assigned (frame_view frame.now) environment.old line targets.now (ty_view ty.now)) }
 {
     match targets {
         Targets::One(place) => assign_place(frame, environment, line, place, copy(alloc, ty)?),
@@ -104,8 +103,8 @@ fn assign_places(
     parts: &[Ty],
 ) -> Result<(), TypeFault>
     requires { length places.now ≡ length parts.now }
-    ensures { Answers (λ _. environment_view environment.new.items) result
-        (spec.assigned_places (frame_view frame.now) (environment_view environment.old.items) line places.now (tys_of (map ty_view parts.now))) }
+    ensures { Answers (λ _. environment.new) result
+        (spec.assigned_places (frame_view frame.now) environment.old line places.now (tys_of (map ty_view parts.now))) }
 {
     for i in 0..places.len() {
         let part = copy(alloc, &parts[i])?;

@@ -1,9 +1,8 @@
 //! What an expression is typed against.
 
-use crate::locals::Locals;
 use gp_base::LineNo;
+use gp_environment::{Environment, Locals};
 use gp_scope::Scope;
-use gp_types::Ty;
 
 /// What an expression is typed against.
 #[derive(Drop)]
@@ -13,7 +12,7 @@ pub struct Context<'a> {
     /// The names of the function.
     pub names: &'a Locals,
     /// The types that these names have here, in their order.
-    pub environment: &'a [Option<Ty>],
+    pub environment: &'a Environment,
     /// The line of the statement.
     pub line: LineNo,
 }

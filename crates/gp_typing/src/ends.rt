@@ -2,16 +2,14 @@
 
 ghost use Rattle.std.specs.Prelude.{◌≡◌, IfOk, None};
 ghost use Rattle.gp_tree.specs.Expression.{expression};
-ghost use Rattle.gp_typing.specs.EnvironmentView.{environment_view};
-ghost use Rattle.gp_typing.specs.Environment as env;
+ghost use Rattle.gp_environment.specs.Environment as env;
 ghost use Rattle.gp_typing.specs.Statements as spec;
-ghost use Rattle.gp_typing.specs.StatementView.{reached_view, ends_view, block_view};
+ghost use Rattle.gp_typing.specs.StatementView.{ends_view, block_view};
 ghost use Rattle.gp_typing.specs.View as view;
 
-use crate::environment::{Environment, is_within, join, keeps};
 use crate::typed::{TypedBlock, TypedStmtKind, TypedStmts};
+use gp_environment::Environment;
 use gp_tree::Expr;
-use gp_types::Ty;
 use std::alloc::{AllocError, Global};
 
 /// The environments at a statement's or a block's end, at its `break`s and at its `continue`s, each where a path leads
@@ -46,7 +44,7 @@ pub struct BlockTyping {
 
 /// Only the end is reached, in this environment where there is one.
 pub fn goes_on(next: Option<Environment>) -> Ends
-    ensures { ends_view result ≡ spec.goes_on (reached_view next) }
+    ensures { ends_view result ≡ spec.goes_on next }
 {
     Ends {
         next,
@@ -61,7 +59,7 @@ pub fn join_reached(
     first: Option<Environment>,
     second: Option<Environment>,
 ) -> Result<Option<Environment>, AllocError>
-    ensures { IfOk result (λ joined. reached_view joined ≡ env.join_reached (reached_view first) (reached_view second)) }
+    ensures { IfOk result (λ joined. joined ≡ env.join_reached first second) }
 {
     let Some(first) = first else {
         return Ok(second);
@@ -69,7 +67,7 @@ pub fn join_reached(
     let Some(second) = second else {
         return Ok(Some(first));
     };
-    Ok(Some(join(alloc, &first, &second)?))
+    Ok(Some(first.join(alloc, &second)?))
 }
 
 /// The ends of one block after another.
@@ -100,29 +98,29 @@ pub fn one_of(alloc: Global, first: Ends, second: Ends) -> Result<Ends, AllocErr
 }
 
 // Whether each usable name has the same type there, where that is reached.
-fn keeps_reached(environment: &[Option<Ty>], there: &Option<Environment>) -> bool
-    ensures { result ≡ env.keeps_reached (environment_view environment.now) (reached_view there.now) }
+fn keeps_reached(environment: &Environment, there: &Option<Environment>) -> bool
+    ensures { result ≡ env.keeps_reached environment.now there.now }
 {
     match there {
         None => true,
-        Some(there) => keeps(environment, there),
+        Some(there) => environment.keeps(there),
     }
 }
 
 /// Whether each name that is usable at a loop's head has the same type where its body comes back to it.
-pub fn comes_back(environment: &[Option<Ty>], body: &Ends) -> bool
-    ensures { result ≡ spec.comes_back (environment_view environment.now) (ends_view body.now) }
+pub fn comes_back(environment: &Environment, body: &Ends) -> bool
+    ensures { result ≡ spec.comes_back environment.now (ends_view body.now) }
 {
     keeps_reached(environment, &body.next) && keeps_reached(environment, &body.continues)
 }
 
 /// Whether the types of the usable names have a total size of at most 128, where the place is reached.
 pub fn is_within_reached(there: &Option<Environment>) -> bool
-    ensures { result ≡ env.is_within (reached_view there.now) }
+    ensures { result ≡ env.is_within there.now }
 {
     match there {
         None => true,
-        Some(there) => is_within(there),
+        Some(there) => there.is_within(),
     }
 }
 
@@ -141,8 +139,8 @@ pub fn after_while(
     head: Environment,
     breaks: Option<Environment>,
 ) -> Result<Option<Environment>, AllocError>
-    ensures { IfOk result (λ next. reached_view next
-        ≡ spec.after_while (expression test.now) (environment_view head.items) (reached_view breaks)) }
+    ensures { IfOk result (λ next. next
+        ≡ spec.after_while (expression test.now) head breaks) }
 {
     if is_true(test) {
         return Ok(breaks);

@@ -3,7 +3,6 @@
 ghost use Rattle.std.specs.Prelude.{drop};
 ghost use Rattle.gp_tree.specs.Expression.{expression, expressions};
 ghost use Rattle.gp_typing.specs.Checks.{Answers};
-ghost use Rattle.gp_typing.specs.EnvironmentView.{environment_view};
 ghost use Rattle.gp_typing.specs.ExpressionView.{value_view, values_view, typed_in, valued_in, values_in};
 ghost use Rattle.gp_typing.specs.Operations.{place_of};
 ghost use Rattle.gp_typing.specs.View.{expression_view};
@@ -105,7 +104,7 @@ fn type_values(
 }
 
 fn type_place(alloc: Global, context: &Context<'_>, place: &Place) -> Result<TypedExpr, TypeFault>
-    ensures { Answers expression_view result (place_of context.now.names.now (environment_view context.now.environment.now) context.now.line place.now) }
+    ensures { Answers expression_view result (place_of context.now.names.now context.now.environment.now context.now.line place.now) }
 {
     let ty = place_type(context.names, context.environment, context.line, place)?;
     let ty = copy(alloc, ty)?;

@@ -4,7 +4,6 @@ ghost use Rattle.std.specs.Prelude.{◌≡◌, ◌&&◌, bytes_eq, map};
 ghost use Rattle.gp_tree.specs.Expression.{expression};
 ghost use Rattle.gp_types.specs.Signature.{parameter_view};
 ghost use Rattle.gp_typing.specs.Checks.{Answers};
-ghost use Rattle.gp_typing.specs.EnvironmentView.{environment_view};
 ghost use Rattle.gp_typing.specs.ExpressionView.{value_view};
 ghost use Rattle.gp_typing.specs.Functions.{is_borrowed_among, is_mode_borrowed};
 ghost use Rattle.gp_typing.specs.StatementView.{expression_in, value_in};
@@ -13,13 +12,13 @@ ghost use Rattle.gp_typing.specs.View.{expression_view};
 use crate::context::Context;
 use crate::expressions::{type_expr, type_value};
 use crate::fault::TypeFault;
-use crate::locals::Locals;
 use crate::typed::TypedExpr;
 use crate::value::Value;
 use gp_base::LineNo;
+use gp_environment::{Environment, Locals};
 use gp_scope::Scope;
 use gp_tree::Expr;
-use gp_types::{Mode, SigParam, Signature, Ty};
+use gp_types::{Mode, SigParam, Signature};
 use std::alloc::Global;
 
 /// What a whole function fixes for its statements.
@@ -55,11 +54,11 @@ fn takes_borrowed(param: &SigParam, name: &str) -> bool
 pub fn expr_in(
     alloc: Global,
     frame: &Frame<'_>,
-    environment: &[Option<Ty>],
+    environment: &Environment,
     line: LineNo,
     expr: &Expr,
 ) -> Result<TypedExpr, TypeFault>
-    ensures { Answers expression_view result (expression_in frame.now (environment_view environment.now) line (expression expr.now)) }
+    ensures { Answers expression_view result (expression_in frame.now environment.now line (expression expr.now)) }
 {
     let context = Context {
         scope: frame.scope,
@@ -74,11 +73,11 @@ pub fn expr_in(
 pub fn value_in(
     alloc: Global,
     frame: &Frame<'_>,
-    environment: &[Option<Ty>],
+    environment: &Environment,
     line: LineNo,
     expr: &Expr,
 ) -> Result<Value, TypeFault>
-    ensures { Answers value_view result (value_in frame.now (environment_view environment.now) line (expression expr.now)) }
+    ensures { Answers value_view result (value_in frame.now environment.now line (expression expr.now)) }
 {
     let context = Context {
         scope: frame.scope,

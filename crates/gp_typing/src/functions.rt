@@ -4,8 +4,8 @@ ghost use Rattle.std.specs.Prelude.{◌≡◌, IfOk, Some, map};
 ghost use Rattle.gp_tree.specs.Program.{function_definition};
 ghost use Rattle.gp_tree.specs.Statement.{statements};
 ghost use Rattle.gp_types.specs.Signature.{parameter_view, signature_view};
+ghost use Rattle.gp_environment.specs.Environment.{nothing_usable};
 ghost use Rattle.gp_typing.specs.Checks.{Answers};
-ghost use Rattle.gp_typing.specs.EnvironmentView.{environment_view};
 ghost use Rattle.gp_typing.specs.Functions as spec;
 ghost use Rattle.gp_typing.specs.FunctionView.{body_typing};
 ghost use Rattle.gp_scope.specs.ScopeView.{known_in};
@@ -13,16 +13,15 @@ ghost use Rattle.gp_typing.specs.StatementView.{frame_view, known_for};
 ghost use Rattle.gp_typing.specs.View.{block_view, function_view};
 
 use crate::ends::{BlockTyping, into_block};
-use crate::environment::{Environment, is_within, put};
 use crate::fault::TypeFault;
 use crate::frame::Frame;
-use crate::locals::{Locals, locals_of};
 use crate::statements::check_block;
 use crate::typed::{TypedBlock, TypedFunction};
 use gp_base::{LineNo, Sequence};
+use gp_environment::{Environment, Locals, locals_of};
 use gp_scope::Scope;
 use gp_tree::{Function, Stmt, copy_name};
-use gp_types::{SigParam, SigParams, Signature, Ty, copy};
+use gp_types::{SigParam, SigParams, Signature, copy};
 use std::alloc::{AllocError, Global};
 
 /// A function with its types. One that the scope doesn't know is an `UnknownName` at its line.
@@ -65,9 +64,9 @@ fn check_body(
     start: Environment,
     body: &[Stmt],
 ) -> Result<TypedBlock, TypeFault>
-    ensures { Answers block_view result (body_typing (known_for frame.now) (frame_view frame.now) line (environment_view start.items) (statements body.now)) }
+    ensures { Answers block_view result (body_typing (known_for frame.now) (frame_view frame.now) line start (statements body.now)) }
 {
-    if !is_within(&start) {
+    if !start.is_within() {
         return Err(TypeFault::TooManyPlaces(line));
     }
     let body = check_block(alloc, body, frame, Some(start))?;
@@ -80,26 +79,15 @@ fn check_body(
 
 // What is usable where a function begins: its parameters.
 fn start_of(alloc: Global, names: &Locals, params: &[SigParam]) -> Result<Environment, AllocError>
-    ensures { IfOk result (λ start. environment_view start.items
-        ≡ spec.with_parameters names.now (spec.nothing_usable names.now) (map parameter_view params.now)) }
+    ensures { IfOk result (λ start. start
+        ≡ spec.with_parameters names.now (nothing_usable names.now) (map parameter_view params.now)) }
 {
-    let mut start = nothing_usable(alloc, names)?;
+    let mut start = Environment::new(alloc, names);
     for param in params {
         let ty = copy(alloc, &param.ty)?;
-        put(names, &mut start, param.name.as_str(), ty);
+        start.put(names, param.name.as_str(), ty)?;
     }
     Ok(start)
-}
-
-fn nothing_usable(alloc: Global, names: &Locals) -> Result<Environment, AllocError>
-    ensures { IfOk result (λ made. environment_view made.items ≡ spec.nothing_usable names.now) }
-{
-    let texts = names.as_slice();
-    let mut made: Vec<Option<Ty>> = Vec::new(alloc);
-    for _text in texts {
-        made.push(None)?;
-    }
-    Ok(made)
 }
 
 // The same signature once more.

@@ -6,12 +6,10 @@ mod assignments;
 mod calls;
 mod context;
 mod ends;
-pub mod environment;
 mod expressions;
 pub mod fault;
 mod frame;
 mod functions;
-pub mod locals;
 mod operators;
 mod places;
 mod program;
@@ -21,8 +19,9 @@ pub mod typed;
 mod value;
 
 pub use fault::TypeFault;
+pub use gp_environment::{NameType, NameTypes};
 pub use program::{Typed, check};
 pub use typed::{
-    NameType, NameTypes, TypedBlock, TypedExpr, TypedExprs, TypedFunction, TypedKind, TypedStmt,
-    TypedStmtKind, TypedStmts,
+    TypedBlock, TypedExpr, TypedExprs, TypedFunction, TypedKind, TypedStmt, TypedStmtKind,
+    TypedStmts,
 };

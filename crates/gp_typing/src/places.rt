@@ -4,13 +4,11 @@ ghost use Rattle.std.specs.Prelude.{◌≡◌, Some, map, option_map};
 ghost use Rattle.gp_types.specs.Types.{fields_of};
 ghost use Rattle.gp_types.specs.View.{ty_view, field_view};
 ghost use Rattle.gp_typing.specs.Checks.{Answers};
-ghost use Rattle.gp_typing.specs.EnvironmentView.{environment_view};
 ghost use Rattle.gp_typing.specs.Expressions as spec;
 
-use crate::environment::{Found, find};
 use crate::fault::TypeFault;
-use crate::locals::Locals;
 use gp_base::{LineNo, Name};
+use gp_environment::{Environment, Found, Locals};
 use gp_tree::Place;
 use gp_types::{Field, Ty};
 
@@ -18,13 +16,13 @@ use gp_types::{Field, Ty};
 /// `NotOnEveryPath` where the name isn't usable. Takes no memory.
 pub fn place_type<'a>(
     names: &Locals,
-    environment: &'a [Option<Ty>],
+    environment: &'a Environment,
     line: LineNo,
     place: &Place,
 ) -> Result<&'a Ty, TypeFault>
-    ensures { Answers (λ ty. ty_view ty.now) result (spec.place_type names.now (environment_view environment.now) line place.now) }
+    ensures { Answers (λ ty. ty_view ty.now) result (spec.place_type names.now environment.now line place.now) }
 {
-    match find(names, environment, place.name.as_str()) {
+    match environment.find(names, place.name.as_str()) {
         Found::Foreign => Err(TypeFault::UnknownName(line)),
         Found::Unusable => Err(TypeFault::NotOnEveryPath(line)),
         Found::Usable(ty) => match path_type(ty, place.fields.as_slice()) {

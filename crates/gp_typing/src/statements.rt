@@ -1,6 +1,6 @@
 //! The types of statements and blocks.
 
-ghost use Rattle.std.specs.Prelude.{◌≡◌, IfOk, OnOk, map, option_map};
+ghost use Rattle.std.specs.Prelude.{◌≡◌, IfOk, OnOk, Ok, Some, None, map, option_map};
 ghost use Rattle.gp_tree.specs.Expression.{expression, maybe_expression};
 ghost use Rattle.gp_tree.specs.Statement.{statement, statements};
 ghost use Rattle.gp_tree.specs.Statement as stmt;
@@ -8,25 +8,26 @@ ghost use Rattle.gp_tree.specs.TypeExpression.{type_expression};
 ghost use Rattle.gp_types.specs.Types as types;
 ghost use Rattle.gp_types.specs.View.{ty_view};
 ghost use Rattle.gp_typing.specs.Checks.{Answers};
-ghost use Rattle.gp_typing.specs.EnvironmentView.{environment_view};
 ghost use Rattle.gp_typing.specs.Statements as spec;
-ghost use Rattle.gp_typing.specs.StatementView.{block_view, statement_view, frame_view, known_for, reached_view, value_in, statement_in, block_in};
+ghost use Rattle.gp_typing.specs.StatementView.{block_view, statement_view, frame_view, known_for, value_in, statement_in, block_in};
 ghost use Rattle.gp_typing.specs.Pieces.{tested, counted, named, written, ended_annotated, ended_if, ended_while, ended_for, ended_next, append_statements, with_typed, next_of};
+ghost use Rattle.gp_typing.specs.Typed as typed;
 ghost use Rattle.gp_typing.specs.Typed.{behind, no_statements, with_statement};
-ghost use Rattle.gp_typing.specs.View.{expression_view, name_view, statement_kind_view, statements_view};
+ghost use Rattle.gp_environment.specs.View.{name_view};
+ghost use Rattle.gp_typing.specs.View.{expression_view, statement_kind_view, statements_view};
 
 use crate::assignments::{assign_name, assign_targets};
 use crate::ends::{
     BlockTyping, Ends, StatementTyping, after, after_while, comes_back, goes_on, into_block,
     is_within_reached, join_reached, one_of,
 };
-use crate::environment::{Environment, copy_environment, usable};
 use crate::fault::TypeFault;
 use crate::frame::{Frame, expr_in, value_in};
 use crate::operators::{is_bool, is_int};
-use crate::typed::{NameTypes, TypedExpr, TypedStmt, TypedStmtKind, TypedStmts};
+use crate::typed::{TypedExpr, TypedStmt, TypedStmtKind, TypedStmts};
 use crate::value::into_expr;
 use gp_base::{LineNo, Name};
+use gp_environment::{Environment, NameTypes};
 use gp_tree::{Expr, Stmt, Targets, TypeExpr, copy_name};
 use gp_types::{Ty, copy, same_type};
 use std::alloc::{AllocError, Global};
@@ -39,7 +40,7 @@ pub fn check_block(
     frame: &Frame<'_>,
     start: Option<Environment>,
 ) -> Result<BlockTyping, TypeFault>
-    ensures { Answers block_view result (block_in frame.now (reached_view start) (statements block.now)) }
+    ensures { Answers block_view result (block_in frame.now start (statements block.now)) }
 {
     let mut typed = BlockTyping {
         stmts: Vec::new(alloc),
@@ -56,7 +57,7 @@ pub fn check_block(
         let Some(environment) = next else {
             return Err(TypeFault::Unreachable(line));
         };
-        let before = usable(alloc, frame.names, &environment)?;
+        let before = environment.usable(alloc, frame.names)?;
         let statement = check_statement(alloc, stmt, frame, environment)?;
         let ends = Ends {
             next: None,
@@ -141,7 +142,7 @@ fn check_statement(
     frame: &Frame<'_>,
     environment: Environment,
 ) -> Result<StatementTyping, TypeFault>
-    ensures { Answers statement_view result (statement_in frame.now (environment_view environment.items) (statement stmt.now)) }
+    ensures { Answers statement_view result (statement_in frame.now environment (statement stmt.now)) }
 {
     match stmt {
         Stmt::Assign(line, targets, value) => {
@@ -154,14 +155,14 @@ fn check_statement(
         Stmt::Return(line, value) => check_return(alloc, frame, &environment, *line, value),
         Stmt::If(line, test, body, other) => {
             let test = check_test(alloc, frame, &environment, *line, test)?;
-            let inside = copy_environment(alloc, &environment)?;
+            let inside = environment.copy(alloc)?;
             let body = check_block(alloc, body, frame, Some(inside))?;
             let other = check_block(alloc, other, frame, Some(environment))?;
             end_if(alloc, *line, test, body, other)
         }
         Stmt::While(line, test, body) => {
             let typed = check_test(alloc, frame, &environment, *line, test)?;
-            let inside = copy_environment(alloc, &environment)?;
+            let inside = environment.copy(alloc)?;
             let body = check_block(alloc, body, frame, Some(inside))?;
             end_while(alloc, *line, test, typed, environment, body)
         }
@@ -171,26 +172,9 @@ fn check_statement(
             let body = check_block(alloc, body, frame, Some(inside))?;
             end_for(alloc, *line, name, count, environment, body)
         }
-        Stmt::Break(line) => Ok(StatementTyping {
-            kind: TypedStmtKind::Break(*line),
-            ends: Ends {
-                next: None,
-                breaks: Some(environment),
-                continues: None,
-            },
-        }),
-        Stmt::Continue(line) => Ok(StatementTyping {
-            kind: TypedStmtKind::Continue(*line),
-            ends: Ends {
-                next: None,
-                breaks: None,
-                continues: Some(environment),
-            },
-        }),
-        Stmt::Pass(line) => Ok(StatementTyping {
-            kind: TypedStmtKind::Pass(*line),
-            ends: goes_on(Some(environment)),
-        }),
+        Stmt::Break(line) => Ok(check_break(*line, environment)),
+        Stmt::Continue(line) => Ok(check_continue(*line, environment)),
+        Stmt::Pass(line) => Ok(check_pass(*line, environment)),
     }
 }
 
@@ -204,7 +188,7 @@ fn check_assign(
     value: &Expr,
 ) -> Result<StatementTyping, TypeFault>
     ensures { Answers statement_view result
-        (statement_in frame.now (environment_view environment.items) (stmt.assign line targets.now (expression value.now))) }
+        (statement_in frame.now environment (stmt.assign line targets.now (expression value.now))) }
 {
     let value = value_in(alloc, frame, &environment, line, value)?;
     assign_targets(alloc, frame, &mut environment, line, targets, &value.ty)?;
@@ -226,8 +210,8 @@ fn check_annotated(
     value: &Expr,
 ) -> Result<StatementTyping, TypeFault>
     ensures { Answers statement_view result
-        (ended_annotated (known_for frame.now) (frame_view frame.now) (environment_view environment.items) line name.now (type_expression written.now)
-        (value_in frame.now (environment_view environment.items) line (expression value.now))) }
+        (ended_annotated (known_for frame.now) (frame_view frame.now) environment line name.now (type_expression written.now)
+        (value_in frame.now environment line (expression value.now))) }
 {
     let value = value_in(alloc, frame, &environment, line, value)?;
     check_written(frame, line, &value.ty)?;
@@ -260,7 +244,7 @@ fn check_evaluate(
     value: &Expr,
 ) -> Result<StatementTyping, TypeFault>
     ensures { Answers statement_view result
-        (statement_in frame.now (environment_view environment.items) (stmt.evaluate line (expression value.now))) }
+        (statement_in frame.now environment (stmt.evaluate line (expression value.now))) }
 {
     let value = expr_in(alloc, frame, &environment, line, value)?;
     Ok(StatementTyping {
@@ -273,12 +257,12 @@ fn check_evaluate(
 fn check_return(
     alloc: Global,
     frame: &Frame<'_>,
-    environment: &[Option<Ty>],
+    environment: &Environment,
     line: LineNo,
     value: &Option<Expr>,
 ) -> Result<StatementTyping, TypeFault>
     ensures { Answers statement_view result
-        (statement_in frame.now (environment_view environment.now) (stmt.return_value line (maybe_expression value.now))) }
+        (statement_in frame.now environment.now (stmt.return_value line (maybe_expression value.now))) }
 {
     let kind = match value {
         None => {
@@ -315,11 +299,11 @@ fn is_result(result_ty: &Option<Ty>, ty: &Ty) -> bool
 fn check_test(
     alloc: Global,
     frame: &Frame<'_>,
-    environment: &[Option<Ty>],
+    environment: &Environment,
     line: LineNo,
     test: &Expr,
 ) -> Result<TypedExpr, TypeFault>
-    ensures { Answers expression_view result (tested line (value_in frame.now (environment_view environment.now) line (expression test.now))) }
+    ensures { Answers expression_view result (tested line (value_in frame.now environment.now line (expression test.now))) }
 {
     let test = value_in(alloc, frame, environment, line, test)?;
     if !is_bool(&test.ty) {
@@ -332,11 +316,11 @@ fn check_test(
 fn check_count(
     alloc: Global,
     frame: &Frame<'_>,
-    environment: &[Option<Ty>],
+    environment: &Environment,
     line: LineNo,
     count: &Expr,
 ) -> Result<TypedExpr, TypeFault>
-    ensures { Answers expression_view result (counted line (value_in frame.now (environment_view environment.now) line (expression count.now))) }
+    ensures { Answers expression_view result (counted line (value_in frame.now environment.now line (expression count.now))) }
 {
     let count = value_in(alloc, frame, environment, line, count)?;
     if !is_int(&count.ty) {
@@ -349,15 +333,53 @@ fn check_count(
 fn check_counting(
     alloc: Global,
     frame: &Frame<'_>,
-    environment: &[Option<Ty>],
+    environment: &Environment,
     line: LineNo,
     name: &Name,
 ) -> Result<Environment, TypeFault>
-    ensures { Answers (λ inside. environment_view inside.items) result (named (frame_view frame.now) (environment_view environment.now) line name.now types.Int) }
+    ensures { Answers (λ inside. inside) result (named (frame_view frame.now) environment.now line name.now types.Int) }
 {
-    let mut inside = copy_environment(alloc, environment)?;
+    let mut inside = environment.copy(alloc)?;
     assign_name(frame, &mut inside, line, name.as_str(), Ty::Int)?;
     Ok(inside)
+}
+
+// `break`.
+fn check_break(line: LineNo, environment: Environment) -> StatementTyping
+    ensures { Ok (statement_view result) ≡ spec.typed_as (typed.break_loop line) (record { next = None; breaks = Some environment; continues = None }) }
+{
+    StatementTyping {
+        kind: TypedStmtKind::Break(line),
+        ends: Ends {
+            next: None,
+            breaks: Some(environment),
+            continues: None,
+        },
+    }
+}
+
+// `continue`.
+fn check_continue(line: LineNo, environment: Environment) -> StatementTyping
+    ensures { Ok (statement_view result) ≡ spec.typed_as (typed.continue_loop line) (record { next = None; breaks = None; continues = Some environment }) }
+{
+    StatementTyping {
+        kind: TypedStmtKind::Continue(line),
+        ends: Ends {
+            next: None,
+            breaks: None,
+            continues: Some(environment),
+        },
+    }
+}
+
+// `pass`.
+fn check_pass(line: LineNo, environment: Environment) -> StatementTyping
+    ensures { Ok (statement_view result) ≡ spec.typed_as (typed.pass line) (spec.goes_on (Some environment)) }
+{
+    StatementTyping {
+        kind: TypedStmtKind::Pass(line),
+        ends: goes_on(Some(environment)),
+    }
 }
 
 // `if` with its test and its blocks.
@@ -394,7 +416,7 @@ fn end_while(
     body: BlockTyping,
 ) -> Result<StatementTyping, TypeFault>
     ensures { Answers statement_view result
-        (ended_while line (expression written.now) (expression_view test) (environment_view head.items) (block_view body)) }
+        (ended_while line (expression written.now) (expression_view test) head (block_view body)) }
 {
     if !comes_back(&head, &body.ends) {
         return Err(TypeFault::LoopChangesType(line));
@@ -418,7 +440,7 @@ fn end_for(
     body: BlockTyping,
 ) -> Result<StatementTyping, TypeFault>
     ensures { Answers statement_view result
-        (ended_for line name.now (expression_view count) (environment_view head.items) (block_view body)) }
+        (ended_for line name.now (expression_view count) head (block_view body)) }
 {
     if !comes_back(&head, &body.ends) {
         return Err(TypeFault::LoopChangesType(line));

@@ -1,21 +1,10 @@
 //! Typed programs: of the shape of programs, each expression with its type, and each statement with the usable names
 //! before it.
 
-use gp_base::{LineNo, Name, Sequence, TextBytes};
+use gp_base::{LineNo, Name, TextBytes};
+use gp_environment::NameTypes;
 use gp_tree::{BinOp, Place, Targets, TypeExpr};
 use gp_types::{Signature, Ty};
-
-/// A usable name with its type.
-#[derive(Debug, Drop)]
-pub struct NameType {
-    /// The name.
-    pub name: Name,
-    /// The type that it has at this place of the text.
-    pub ty: Ty,
-}
-
-/// A list of usable names with their types, in the order of the names' first appearance in the function.
-pub type NameTypes = Sequence<NameType>;
 
 /// An expression with its type.
 #[derive(Debug, Drop)]

@@ -1,6 +1,5 @@
 use Rattle.std.proofs.Common.{◌∙◌, ap, sym, map, drop, Ok}
 use Rattle.gp_tree.specs.Expression.{expression, expressions}
-use Rattle.gp_typing.specs.EnvironmentView.{environment_view}
 use Rattle.gp_typing.specs.Expressions as spec
 use Rattle.gp_typing.specs.ExpressionView.{value_view, values_view, typed_in, valued_in, values_in}
 use Rattle.gp_types.specs.View.{ty_view}
@@ -24,7 +23,7 @@ type_expr-returns-in-Text t c =
 
 pub type_expr-returns-in-Place : goal.type_expr-returns-in-Place
 type_expr-returns-in-Place t c =
-    ends expression_view c.type_place.result (typed_in c.args.context.now (expression c.args.expr.now)) (place_of c.args.context.now.names.now (environment_view c.args.context.now.environment.now) c.args.context.now.line c.in-Place.place)
+    ends expression_view c.type_place.result (typed_in c.args.context.now (expression c.args.expr.now)) (place_of c.args.context.now.names.now c.args.context.now.environment.now c.args.context.now.line c.in-Place.place)
     (place-typed c.args.context.now c.args.expr.now c.in-Place.place c.in-Place.is) c.type_place.ensures
 
 pub type_expr-returns-in_err-operand-in-Neg : goal.type_expr-returns-in_err-operand-in-Neg

@@ -1,0 +1,5 @@
+pub mod Environment
+pub mod Locals
+pub mod Usable
+pub mod TypeCode
+pub mod View

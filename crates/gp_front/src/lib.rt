@@ -4,6 +4,7 @@
 
 pub mod checked;
 pub mod fault;
+pub mod laws;
 
 pub use checked::{CheckedText, check_text};
 pub use fault::TextFault;

@@ -1,0 +1,15 @@
+pub mod Flags
+pub mod Paths
+pub mod Views
+pub mod Numbers
+pub mod Entries
+pub mod Assignments
+pub mod Steps
+pub mod Levels
+pub mod Expressions
+pub mod Statements
+pub mod Equations
+pub mod CallRows
+pub mod Texts
+pub mod Backs
+pub mod RunLaws

@@ -1,0 +1,9 @@
+pub mod Value
+pub mod State
+pub mod Operators
+pub mod Calls
+pub mod Meaning
+pub mod View
+pub mod Runs
+pub mod Laws
+pub mod Samples

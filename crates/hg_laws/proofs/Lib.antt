@@ -31,6 +31,7 @@ pub mod Tested
 pub mod Decided
 pub mod Callees
 pub mod Turns
+pub mod Fitting
 pub mod Main
 pub mod Samples
 pub mod FunctionSamples

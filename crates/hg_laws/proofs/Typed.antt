@@ -46,7 +46,7 @@ pub stuck_gives : {S A : Type 0} (Q : A → Type 0) → Gives {S = S} Q (stop Ra
 stuck_gives Q = record { gives = λ s. tt }
 
 -- ---- extension ops
-after_gives : {A : Type 0} (Q : List Value → Type 0) (m : Run World A) (k : A → Run World (List Value)) → ((a : A) → Gives Q (k a)) → Gives Q (m >>= k)
+pub after_gives : {A : Type 0} (Q : List Value → Type 0) (m : Run World A) (k : A → Run World (List Value)) → ((a : A) → Gives Q (k a)) → Gives Q (m >>= k)
 after_gives Q m k h = then_gives (λ _. Unit {0}) Q m k (no_types m) (λ a _. h a)
 
 module _ (F : Functions) where

@@ -1,6 +1,7 @@
 //! Laws of program graphs and their runs. Each function does nothing: its contract is the law.
 #![tactic(auto)]
 
+ghost use Rattle.hg_laws.specs.Fits.{NumbersFit};
 ghost use Rattle.hg_laws.specs.FunctionSamples.{FunctionSamplesRun, FunctionSamplesAreSound};
 ghost use Rattle.hg_laws.specs.Samples.{NumbersAre, SamplesRun, SamplesAreValid};
 ghost use Rattle.hg_laws.specs.Laws.{ValidGraphsKeepPlaces, MomentsChangeNothing, ValidGraphsEndWell, RunsAreClean, ClosedRunsHoldNone, PicksChangeNothing, BoundsSuffice, RunsUnfold, AnyReadyFirst, ValidRegionsGoOn, OneIsBroken, ValidOrBroken, CalleesAreTyped, CallsTakeTurns};
@@ -84,6 +85,12 @@ pub fn callees_are_typed()
 /// anything happens, or takes one turn and then runs a node.
 pub fn calls_take_turns()
     ensures { CallsTakeTurns }
+{}
+
+/// Where the constants of a graph and the arguments of a run have whole numbers of 64 bits alone, so have the values that the
+/// run returns. Constants of graphs in memory are such numbers by their type.
+pub fn numbers_fit()
+    ensures { NumbersFit }
 {}
 
 /// Whole numbers keep 64 bits with a sign, and are divided towards minus infinity.

@@ -1,9 +1,9 @@
 -- The whole numbers of a run have 64 bits, of whatever graph.
 use Rattle.std.proofs.Common.{◌≡◌, ℕ, zero, suc, ℤ, Bool, true, false, cond, ltb, List, [], ◌∷◌, ◌++◌, length, Option, Some, None, refl, sym, ap, ◌∙◌, subst}
-use Rattle.std.specs.Prelude.{slice_get, pos, FitsSigned}
+use Rattle.std.specs.Prelude.{slice_get, pos, ◌==◌, not, FitsSigned}
 use Rattle.std.specs.Int.{w64}
 use Rattle.std.proofs.lemmas.Int.{SFits-int_wrap}
-use Rattle.gp_base.specs.Number.{is_same, floor_quotient}
+use Rattle.gp_base.specs.Number.{is_same, negated}
 use Rattle.gp_base.specs.Run.{Run, Out, Returned, Stopped, DivisionByZero, Stuck, ◌>>=◌, ret, stop}
 use Rattle.gp_base.specs.declared.event.Event.TheVariants as event
 use Rattle.gp_base.specs.declared.event.GateName.TheVariants as name
@@ -12,7 +12,7 @@ use Rattle.gp_base.specs.Membership.{In}
 use Rattle.hg_ops.specs.Op as op
 use Rattle.hg_ops.specs.Op.{Op, Extension, Arithmetic, Division, one_qubit_name, two_qubit_name, rotation_name, FuncDefn, Const, Dfg, Cfg, DataflowBlock, ExitBlock, Conditional, Case, TailLoop, Tag, Call, CallIndirect, LoadConstant, LoadFunction, Ext, ins_of}
 use Rattle.hg_graph.specs.Graph.{Graph, Link, Port, op_at, children, firing_children, feeder, taker, static_input}
-use Rattle.hg_graph.specs.Run.{Fired, Open, Look, outs_at, value_at, value_of, cons_both, pulled, inputs, ready, with_tuple, nothing, divide, divided, calculated, perform_extension, perform, State, Note, no_note, with_world, on_world, choose, or_stuck, at_moment, Enter, at_node, at_port, with_variant, with_function, name_of_function, constant, after_turn, fire_op, fire, firings, region, after_round, jump, enter_op, level, resume, runs, world_out, run_function, graph_run}
+use Rattle.hg_graph.specs.Run.{Fired, Open, Look, outs_at, value_at, value_of, cons_both, pulled, inputs, ready, with_tuple, nothing, divide, divided, calculated, compared, compared_bools, perform_extension, perform, State, Note, no_note, with_world, on_world, choose, or_stuck, at_moment, Enter, at_node, at_port, with_variant, with_function, name_of_function, constant, after_turn, fire_op, fire, firings, region, after_round, jump, enter_op, level, resume, runs, world_out, run_function, graph_run}
 use Rattle.hg_graph.specs.Value.{Value, Int, Qubit, Variant, Function, Values, no_values, value, values, packed, truth, callee}
 use Rattle.hg_laws.specs.Fits.{Fits, PackedFit, AllFit, ReturnsFitting, ConstantsFit, NumbersFit}
 use Rattle.hg_laws.proofs.Runs.{Giving, Gives, then_gives, no_types, on_world_gives}
@@ -63,17 +63,19 @@ module _ (look : Look) (L : LooksFit look) where
       is : (a b : List Value) → Some a ≡ Some b → a ≡ b
       is a b e = cc
   pulled_fit links n p (suc count) vs e =
-      both (value_of look (feeder links (record { node = n; index = p }))) (pulled links look n (suc p) count) refl refl e
+      both (value_of look (feeder links (record { node = n; index = p }))) (pulled links look n (suc p) count) refl refl e (λ us r. pulled_fit links n (suc p) count us r)
     where
       is : (a b : List Value) → Some a ≡ Some b → a ≡ b
       is a b e = cc
 
       both : (o : Option Value) (os : Option (List Value)) → value_of look (feeder links (record { node = n; index = p })) ≡ o
-          → pulled links look n (suc p) count ≡ os → cons_both o os ≡ Some vs → AllFit vs
-      both None os q r e = absurd cc
-      both (Some v) None q r e = absurd cc
-      both (Some v) (Some us) q r e =
-          subst AllFit (is (v ∷ us) vs e) (value_fits (feeder links (record { node = n; index = p })) v q, pulled_fit links n (suc p) count us r)
+          → pulled links look n (suc p) count ≡ os → cons_both o os ≡ Some vs
+          → ((us : List Value) → pulled links look n (suc p) count ≡ Some us → AllFit us) → AllFit vs
+      both None os q r e rest = absurd cc
+      both (Some v) None q r e rest = absurd cc
+      both (Some v) (Some us) q r e rest =
+          let h : AllFit (v ∷ us) = (value_fits (feeder links (record { node = n; index = p })) v q, rest us r) in
+          subst AllFit (is (v ∷ us) vs e) h
 
   inputs_fit : (g : Graph) (n : ℕ) (vs : List Value) → inputs g look n ≡ Some vs → AllFit vs
   unfolding inputs
@@ -85,14 +87,14 @@ FiredFit (f ∷ fired) = AllFit f.outs × FiredFit fired
 
 outs_fit : (fired : List Fired) → FiredFit fired → LooksFit (outs_at fired)
 outs_fit [] h n vs e = absurd cc
-outs_fit (f ∷ fired) h n vs e = at (Rattle.std.specs.Prelude.◌==◌ f.node n) e
+outs_fit (f ∷ fired) h n vs e = at (f.node == n) e (λ k. outs_fit fired h.1 n vs k)
   where
     is : (a b : List Value) → Some a ≡ Some b → a ≡ b
     is a b e = cc
 
-    at : (b : Bool) → cond b (Some f.outs) (outs_at fired n) ≡ Some vs → AllFit vs
-    at true e = subst AllFit (is f.outs vs e) h.0
-    at false e = outs_fit fired h.1 n vs e
+    at : (b : Bool) → cond b (Some f.outs) (outs_at fired n) ≡ Some vs → (outs_at fired n ≡ Some vs → AllFit vs) → AllFit vs
+    at true e rest = subst AllFit (is f.outs vs e) h.0
+    at false e rest = rest e
 
 -- ---- ops without a region
 abbrev P : Run World (List Value) → Type 0
@@ -126,37 +128,37 @@ tuple_gives _ h = no
 
 extension_gives : (e : Extension) (vs : List Value) → AllFit vs → P (perform_extension e vs)
 unfolding perform_extension
-extension_gives op.Alloc [] h = after_gives AllFit allocate _ (λ q. returns _ (tt, tt))
+extension_gives op.Alloc [] h = after_gives AllFit allocate (λ q. ret (Qubit q ∷ [])) (λ q. returns (Qubit q ∷ []) (tt, tt))
 extension_gives op.Alloc (v ∷ vs) h = no
 extension_gives op.Free vs h = qubit_case P no vs _ (λ q. after_gives AllFit (free q) nothing (λ _. returns [] tt))
-extension_gives op.MeasureFree vs h = qubit_case P no vs _ (λ q. after_gives AllFit (measure_free q) _ (λ b. returns _ (truth_fits b, tt)))
-extension_gives op.Measure vs h = qubit_case P no vs _ (λ q. after_gives AllFit (measure q) _ (λ b. returns _ (tt, (truth_fits b, tt))))
-extension_gives op.Reset vs h = qubit_case P no vs _ (λ q. after_gives AllFit (reset q) _ (λ _. returns _ (tt, tt)))
-extension_gives (op.Gate1 gate) vs h = qubit_case P no vs _ (λ q. after_gives AllFit (apply_gate (one_qubit_name gate) q) _ (λ _. returns _ (tt, tt)))
-extension_gives (op.Gate2 gate) vs h = two_qubits_case P no vs _ (λ p q. after_gives AllFit (apply_gate_on_two (two_qubit_name gate) p q) _ (λ _. returns _ (tt, (tt, tt))))
-extension_gives op.Toffoli vs h = three_qubits_case P no vs _ (λ p q r. after_gives AllFit (apply_gate_on_three name.Toffoli p q r) _ (λ _. returns _ (tt, (tt, (tt, tt)))))
-extension_gives (op.Rotation gate) vs h = angle_case P no vs _ (λ q a. after_gives AllFit (rotate (rotation_name gate) q a) _ (λ _. returns _ (tt, tt)))
+extension_gives op.MeasureFree vs h = qubit_case P no vs _ (λ q. after_gives AllFit (measure_free q) (λ b. ret (truth b ∷ [])) (λ b. returns (truth b ∷ []) (truth_fits b, tt)))
+extension_gives op.Measure vs h = qubit_case P no vs _ (λ q. after_gives AllFit (measure q) (λ b. ret (Qubit q ∷ truth b ∷ [])) (λ b. returns (Qubit q ∷ truth b ∷ []) (tt, (truth_fits b, tt))))
+extension_gives op.Reset vs h = qubit_case P no vs _ (λ q. after_gives AllFit (reset q) (λ _. ret (Qubit q ∷ [])) (λ _. returns (Qubit q ∷ []) (tt, tt)))
+extension_gives (op.Gate1 gate) vs h = qubit_case P no vs _ (λ q. after_gives AllFit (apply_gate (one_qubit_name gate) q) (λ _. ret (Qubit q ∷ [])) (λ _. returns (Qubit q ∷ []) (tt, tt)))
+extension_gives (op.Gate2 gate) vs h = two_qubits_case P no vs _ (λ p q. after_gives AllFit (apply_gate_on_two (two_qubit_name gate) p q) (λ _. ret (Qubit p ∷ Qubit q ∷ [])) (λ _. returns (Qubit p ∷ Qubit q ∷ []) (tt, (tt, tt))))
+extension_gives op.Toffoli vs h = three_qubits_case P no vs _ (λ p q r. after_gives AllFit (apply_gate_on_three name.Toffoli p q r) (λ _. ret (Qubit p ∷ Qubit q ∷ Qubit r ∷ [])) (λ _. returns (Qubit p ∷ Qubit q ∷ Qubit r ∷ []) (tt, (tt, (tt, tt)))))
+extension_gives (op.Rotation gate) vs h = angle_case P no vs _ (λ q a. after_gives AllFit (rotate (rotation_name gate) q a) (λ _. ret (Qubit q ∷ [])) (λ _. returns (Qubit q ∷ []) (tt, tt)))
 extension_gives (op.ResultInt tag) vs h = int_case P no vs _ (λ a. after_gives AllFit (does (event.ResultInt tag a)) nothing (λ _. returns [] tt))
 extension_gives (op.ResultBool tag) vs h = bool_case P no vs _ (λ a. after_gives AllFit (does (event.ResultBool tag a)) nothing (λ _. returns [] tt))
-extension_gives (op.Calculate which) vs h = two_ints_case P no vs _ (λ a b. returns _ (calculated_fits which a b, tt))
+extension_gives (op.Calculate which) vs h = two_ints_case P no vs _ (λ a b. returns (Int (calculated which a b) ∷ []) (calculated_fits which a b, tt))
 extension_gives (op.Divide which) vs h = two_ints_case P no vs _ (divide_gives which)
-extension_gives op.Negate vs h = int_case P no vs _ (λ a. returns _ (SFits-int_wrap w64 _, tt))
-extension_gives (op.Compare which) vs h = two_ints_case P no vs _ (λ a b. returns _ (truth_fits _, tt))
-extension_gives op.Not vs h = bool_case P no vs _ (λ a. returns _ (truth_fits _, tt))
-extension_gives (op.CompareBools which) vs h = two_bools_case P no vs _ (λ a b. returns _ (truth_fits _, tt))
+extension_gives op.Negate vs h = int_case P no vs _ (λ a. returns (Int (negated a) ∷ []) (SFits-int_wrap w64 _, tt))
+extension_gives (op.Compare which) vs h = two_ints_case P no vs _ (λ a b. returns (truth (compared which a b) ∷ []) (tt, tt))
+extension_gives op.Not vs h = bool_case P no vs _ (λ a. returns (truth (not a) ∷ []) (tt, tt))
+extension_gives (op.CompareBools which) vs h = two_bools_case P no vs _ (λ a b. returns (truth (compared_bools which a b) ∷ []) (tt, tt))
 extension_gives (op.Unpack types) vs h = tuple_gives vs h
 
 perform_gives : (kind : Op) (vs : List Value) → AllFit vs → P (perform kind vs)
 unfolding perform
 perform_gives (Ext e) vs h = extension_gives e vs h
-perform_gives (Tag rows k) vs h = returns _ (packed_fit vs h, tt)
+perform_gives (Tag rows k) vs h = returns (Variant k (packed vs) ∷ []) (packed_fit vs h, tt)
 perform_gives _ vs h = no
 
 -- ---- runs
 abbrev F : {N : Type 0} → Run (State N) (List Value) → Type 0
 F m = Gives AllFit m
 
-stuck : {N : Type 0} → F {N} (stop Stuck)
+stuck : {N : Type 0} → F {N = N} (stop Stuck)
 stuck = stuck_gives AllFit
 
 record FitsEnter {N : Type 0} (E : Enter N) : Type 0 where
@@ -172,19 +174,19 @@ function_fits : {N : Type 0} (vs : List Value) (k : List ℕ → List Value → 
 function_fits (Function name ∷ vs) k h f = f name vs h.1
 function_fits _ k h f = stuck
 
-name_fits : {N : Type 0} (kind : Op) → F {N} (name_of_function kind)
+name_fits : {N : Type 0} (kind : Op) → F {N = N} (name_of_function kind)
 name_fits (FuncDefn name i o) = record { gives = λ s. (tt, tt) }
 name_fits _ = stuck
 
-or_stuck_fits : {N : Type 0} (o : Option (List Value)) → ((vs : List Value) → o ≡ Some vs → AllFit vs) → F {N} (or_stuck o)
+or_stuck_fits : {N : Type 0} (o : Option (List Value)) → ((vs : List Value) → o ≡ Some vs → AllFit vs) → F {N = N} (or_stuck o)
 or_stuck_fits None h = stuck
 or_stuck_fits (Some vs) h = record { gives = λ s. h vs refl }
 
 module _ {N : Type 0} (note : Note N) (g : Graph) (C : ConstantsFit g) where
-  const_fits : (n : ℕ) → F {N} (constant (op_at g n))
+  const_fits : (n : ℕ) → F {N = N} (constant (op_at g n))
   const_fits n = go (op_at g n) refl
     where
-      go : (kind : Op) → op_at g n ≡ kind → F {N} (constant kind)
+      go : (kind : Op) → op_at g n ≡ kind → F {N = N} (constant kind)
       go (Const k) e = record { gives = λ s. (C n k e, tt) }
       go _ e = stuck
 

@@ -8,7 +8,7 @@ use Rattle.gp_base.specs.World.{World, allocate, free, apply_gate, apply_gate_on
 use Rattle.hg_ops.specs.Op as op
 use Rattle.hg_ops.specs.Op.{Op, Extension, Arithmetic, Division, Comparison, BoolComparison, ins_of, one_qubit_name, two_qubit_name, rotation_name}
 use Rattle.hg_graph.specs.Graph.{Graph, Link, Ports, Order, Port, op_at, children, firing_children, feeder, taker, static_input}
-use Rattle.hg_graph.specs.Value.{Value, Int, Qubit, Variant, values, packed, truth, truth_of}
+use Rattle.hg_graph.specs.Value.{Value, Int, Qubit, Variant, Function, values, packed, truth, truth_of, callee}
 
 -- ---- what a region has so far
 
@@ -244,6 +244,16 @@ abbrev pub with_variant : {N : Type 0} → List Value → (ℕ → List Value �
 with_variant (Variant k vs ∷ others) go = go k (values vs ++ others)
 with_variant _ go = stop Stuck
 
+-- the name of a function, with the other values
+abbrev pub with_function : {N : Type 0} → List Value → (List ℕ → List Value → Run (State N) (List Value)) → Run (State N) (List Value)
+with_function (Function name ∷ others) go = go name others
+with_function _ go = stop Stuck
+
+-- the name of a function as a value
+abbrev pub name_of_function : {N : Type 0} → Op → Run (State N) (List Value)
+name_of_function (op.FuncDefn name ins outs) = ret (Function name ∷ [])
+name_of_function _ = stop Stuck
+
 abbrev pub constant : {N : Type 0} → Op → Run (State N) (List Value)
 constant (op.Const n) = ret (Int n ∷ [])
 constant _ = stop Stuck
@@ -260,6 +270,8 @@ module _ {N : Type 0} (note : Note N) (g : Graph) where
   fire_op inside again (op.TailLoop a l r) outer n vs = inside outer n vs
   fire_op inside again (op.Cfg ins outs) outer n vs = inside outer n vs
   fire_op inside again (op.Call ins outs) outer n vs = at_port (feeder g.links (static_input g n)) (λ f. after_turn again outer f vs)
+  fire_op inside again (op.CallIndirect ins outs) outer n vs = with_function vs (λ name us. at_node (callee g ins outs name) (λ f. after_turn again outer f us))
+  fire_op inside again (op.LoadFunction ins outs) outer n vs = at_port (feeder g.links (static_input g n)) (λ f. name_of_function (op_at g f))
   fire_op inside again op.LoadConstant outer n vs = at_port (feeder g.links (static_input g n)) (λ c. constant (op_at g c))
   fire_op inside again kind outer n vs = on_world (perform kind vs)
 

@@ -4,6 +4,7 @@ pub mod Names
 pub mod Op
 pub mod OpView
 pub mod PlainType
+pub mod SameType
 pub mod TypeCode
 pub mod TypeFalls
 pub mod TypeSize

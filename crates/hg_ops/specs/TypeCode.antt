@@ -3,7 +3,7 @@ use Rattle.std.specs.Prelude.{◌≡◌, List}
 use Rattle.std.specs.Coded.{Coded, coded_list}
 use base.Stored.{Gv, gnil, gnum, gcons}
 use Rattle.std.proofs.Common.{refl, ap}
-use Rattle.hg_ops.specs.GraphType.{GraphType, Int, Qubit, Sum, Row, no_types, next, Rows, no_rows, next_row}
+use Rattle.hg_ops.specs.GraphType.{GraphType, Int, Qubit, Sum, Function, Row, no_types, next, Rows, no_rows, next_row}
 
 -- the types at some ports, in order
 abbrev pub Types : Type 0
@@ -14,6 +14,7 @@ abbrev mutual
   type_code Int = gnil
   type_code Qubit = gnum 0
   type_code (Sum rows) = gcons gnil (rows_code rows)
+  type_code (Function ins outs) = gcons (gnum 0) (gcons (row_code ins) (row_code outs))
 
   pub row_code : Row → Gv
   row_code no_types = gnil
@@ -36,12 +37,19 @@ mutual
   type_code-inj Int Int e = refl
   type_code-inj Int Qubit e = cc
   type_code-inj Int (Sum rows) e = cc
+  type_code-inj Int (Function ins outs) e = cc
   type_code-inj Qubit Int e = cc
   type_code-inj Qubit Qubit e = refl
   type_code-inj Qubit (Sum rows) e = cc
+  type_code-inj Qubit (Function ins outs) e = cc
   type_code-inj (Sum rows) Int e = cc
   type_code-inj (Sum rows) Qubit e = cc
   type_code-inj (Sum a) (Sum b) e = ap Sum (rows_code-inj a b (ap tail e))
+  type_code-inj (Sum rows) (Function ins outs) e = cc
+  type_code-inj (Function ins outs) Int e = cc
+  type_code-inj (Function ins outs) Qubit e = cc
+  type_code-inj (Function ins outs) (Sum rows) e = cc
+  type_code-inj (Function a b) (Function c d) e = λ i. Function (row_code-inj a c (ap (λ x. head (tail x)) e) i) (row_code-inj b d (ap (λ x. tail (tail x)) e) i)
 
   pub row_code-inj : (a b : Row) → row_code a ≡ row_code b → a ≡ b
   row_code-inj no_types no_types e = refl

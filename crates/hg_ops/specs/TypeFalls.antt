@@ -13,6 +13,7 @@ deep_le-type_size : (t : Declared) → deep-GraphType t ≤ type_size (type_view
 deep_le-type_size kind.Int = omega arith
 deep_le-type_size kind.Qubit = omega arith
 deep_le-type_size (kind.Sum rows) = omega arith
+deep_le-type_size (kind.Function ins outs) = omega arith
 
 pub most_le-row_size : (ts : List Declared) → max (most deep-GraphType ts) 0 ≤ row_size (map type_view ts)
 most_le-row_size [] = omega arith

@@ -1,12 +1,13 @@
 -- How large types are: each is larger than those that it leads back to.
 use Rattle.std.specs.Prelude.{ℕ, suc, ◌+◌, List}
-use Rattle.hg_ops.specs.GraphType.{GraphType, Int, Qubit, Sum, Row, no_types, next, Rows, no_rows, next_row, row_of, rows_of}
+use Rattle.hg_ops.specs.GraphType.{GraphType, Int, Qubit, Sum, Function, Row, no_types, next, Rows, no_rows, next_row, row_of, rows_of}
 
 abbrev mutual
   pub type_size : GraphType → ℕ
   type_size Int = 0
   type_size Qubit = 0
   type_size (Sum rows) = suc (copied_rows_size rows)
+  type_size (Function ins outs) = suc (copied_row_size ins + copied_row_size outs)
 
   pub copied_row_size : Row → ℕ
   copied_row_size no_types = 0

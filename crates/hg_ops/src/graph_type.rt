@@ -13,6 +13,8 @@ pub enum GraphType {
     Qubit,
     /// One of several rows: its number, with values of its types.
     Sum(Rows),
+    /// A function, by its name, that takes values of one row and gives values of another.
+    Function(Row, Row),
 }
 
 /// A list of types, as of the values at the inputs of a node. A contract sees it as a list.
@@ -270,6 +272,9 @@ impl GraphType {
             GraphType::Int => Ok(GraphType::Int),
             GraphType::Qubit => Ok(GraphType::Qubit),
             GraphType::Sum(rows) => Ok(GraphType::Sum(rows.copy(alloc)?)),
+            GraphType::Function(ins, outs) => {
+                Ok(GraphType::Function(ins.copy(alloc)?, outs.copy(alloc)?))
+            }
         }
     }
 
@@ -281,18 +286,21 @@ impl GraphType {
         match (self, other) {
             (GraphType::Int, GraphType::Int) | (GraphType::Qubit, GraphType::Qubit) => true,
             (GraphType::Sum(rows), GraphType::Sum(others)) => rows.is_same(others),
+            (GraphType::Function(ins, outs), GraphType::Function(other_ins, other_outs)) => {
+                ins.is_same(other_ins) && outs.is_same(other_outs)
+            }
             _ => false,
         }
     }
 
     /// Whether a value of the type has to be used exactly once: the type is that of qubits, or a Sum with a linear
-    /// type in at least one of its rows. Takes no memory.
+    /// type in at least one of its rows. No function type is linear. Takes no memory.
     #[cycle(linear)]
     pub fn is_linear(&self) -> bool
         ensures { result ≡ is_linear (type_view self.now) }
     {
         match self {
-            GraphType::Int => false,
+            GraphType::Int | GraphType::Function(_, _) => false,
             GraphType::Qubit => true,
             GraphType::Sum(rows) => rows.is_linear(),
         }

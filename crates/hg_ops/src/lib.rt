@@ -12,6 +12,7 @@ pub mod op_kind;
 pub mod ports;
 pub mod signatures;
 mod tables;
+pub mod turn;
 
 pub use effect::is_effect;
 pub use ext_op::{ExtOp, name_of, op_of_name};
@@ -22,6 +23,7 @@ pub use linear::is_linear;
 pub use op_kind::OpKind;
 pub use ports::{input_count, output_count};
 pub use signatures::signature;
+pub use turn::takes_turn;
 
 #[cfg(test)]
 mod tests;

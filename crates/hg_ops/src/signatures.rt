@@ -1,7 +1,7 @@
 //! The types at the value ports of ops.
 
 ghost use Rattle.std.specs.Prelude.{◌≡◌, [], ◌∷◌, ◌++◌, map, slice_index_or, IfOk};
-ghost use Rattle.hg_ops.specs.GraphType.{sum_type, tuple_type};
+ghost use Rattle.hg_ops.specs.GraphType.{sum_type, tuple_type, function_type};
 ghost use Rattle.hg_ops.specs.Op as spec;
 ghost use Rattle.hg_ops.specs.OpView.{op_view};
 ghost use Rattle.hg_ops.specs.PlainType.{plain_type};
@@ -43,7 +43,9 @@ macro_rules! rows_of {
             OpKind::Conditional { rows, ins, outs } => Ok((sum_and($alloc, rows, ins)?, outs.copy($alloc)?)),
             OpKind::TailLoop { again, leave, rest } => Ok((joined($alloc, again, rest)?, joined($alloc, leave, rest)?)),
             OpKind::Tag { rows, tag } => Ok((row_at($alloc, rows, *tag)?, sum_row($alloc, rows.copy($alloc)?)?)),
+            OpKind::CallIndirect { ins, outs } => Ok((function_and($alloc, ins, outs)?, outs.copy($alloc)?)),
             OpKind::LoadConstant => plain_rows($alloc, &[], &[Plain::Int]),
+            OpKind::LoadFunction { ins, outs } => Ok((Row::new($alloc), function_row($alloc, ins, outs)?)),
             OpKind::Unpack { types } => Ok((tuple_row($alloc, types)?, types.copy($alloc)?)),
             $(OpKind::$ext { .. } => plain_rows($alloc, &[$(Plain::$in),*], &[$(Plain::$out),*]),)*
             $(OpKind::$gate => Gate::<$qubits, $angles>::signature($alloc),)*
@@ -108,6 +110,24 @@ fn tuple_row(alloc: Global, types: &Row) -> Result<Row, AllocError>
     let mut rows = Rows::new(alloc);
     rows.push(types.copy(alloc)?)?;
     sum_row(alloc, rows)
+}
+
+// The row of a function type alone.
+fn function_row(alloc: Global, ins: &Row, outs: &Row) -> Result<Row, AllocError>
+    ensures { IfOk result (λ row. row ≡ function_type ins.now outs.now ∷ []) }
+{
+    let mut row = Row::new(alloc);
+    row.push(GraphType::Function(ins.copy(alloc)?, outs.copy(alloc)?))?;
+    Ok(row)
+}
+
+// A function type, and then the types that go into the function.
+fn function_and(alloc: Global, ins: &Row, outs: &Row) -> Result<Row, AllocError>
+    ensures { IfOk result (λ row. row ≡ function_type ins.now outs.now ∷ ins.now) }
+{
+    let mut row = function_row(alloc, ins, outs)?;
+    row.append_copy(alloc, ins)?;
+    Ok(row)
 }
 
 // A Sum, and then the types of a row.

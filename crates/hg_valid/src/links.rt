@@ -37,7 +37,7 @@ fn other_input(op: &OpKind, place: u64) -> Option<OtherKind>
     }
     match op {
         OpKind::DataflowBlock { .. } | OpKind::ExitBlock { .. } => Some(OtherKind::Control),
-        OpKind::Call { .. } => Some(OtherKind::Function),
+        OpKind::Call { .. } | OpKind::LoadFunction { .. } => Some(OtherKind::Function),
         OpKind::LoadConstant => Some(OtherKind::Constant),
         _ => None,
     }

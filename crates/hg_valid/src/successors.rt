@@ -69,7 +69,10 @@ fn value_input_count(op: &OpKind) -> u64
     ensures { result ≡ length (ins_of (op_view op.now)) }
 {
     match op {
-        OpKind::DataflowBlock { .. } | OpKind::ExitBlock { .. } | OpKind::LoadConstant => 0,
+        OpKind::DataflowBlock { .. }
+        | OpKind::ExitBlock { .. }
+        | OpKind::LoadConstant
+        | OpKind::LoadFunction { .. } => 0,
         OpKind::Call { ins, .. } => ins.len(),
         _ => input_count(op),
     }

@@ -25,6 +25,9 @@ pub(super) enum Kind {
     Const,
     Load,
     Call0,
+    // loads a function from a qubit to a qubit, and calls one that it takes
+    LoadTurn,
+    CallTurn,
     // from no values to none
     Cfg0,
     // a block with one row, and all without types
@@ -128,6 +131,14 @@ fn op(alloc: Global, kind: Kind) -> Result<OpKind, AllocError> {
             ins: row0(alloc),
             outs: row0(alloc),
         }),
+        Kind::LoadTurn => Ok(OpKind::LoadFunction {
+            ins: row1(alloc)?,
+            outs: row1(alloc)?,
+        }),
+        Kind::CallTurn => Ok(OpKind::CallIndirect {
+            ins: row1(alloc)?,
+            outs: row1(alloc)?,
+        }),
         Kind::One(tag) => Ok(OpKind::Tag {
             rows: rows(alloc, 1)?,
             tag,
@@ -152,12 +163,13 @@ fn port(node: u64, index: u64) -> Port
     }
 }
 
-// The graph of these nodes, each an op and a parent, and of these links, each the node and the number of its output and
-// those of its input. A node or a link that names what isn't there is left out.
+// The graph of these nodes, each an op and a parent, of these links, each the node and the number of its output and those
+// of its input, and of these order links. A node or a link that names what isn't there is left out.
 pub(super) fn graph_of(
     alloc: Global,
     nodes: &[(Kind, u64)],
     links: &[(u64, u64, u64, u64)],
+    orders: &[(u64, u64)],
 ) -> Result<Graph, AllocError> {
     let mut graph = Graph::new(alloc)?;
     for (kind, parent) in nodes {
@@ -170,5 +182,15 @@ pub(super) fn graph_of(
             graph.link(port(*from, *output), port(*to, *input))?;
         }
     }
+    add_orders(&mut graph, orders)?;
     Ok(graph)
+}
+
+fn add_orders(graph: &mut Graph, orders: &[(u64, u64)]) -> Result<(), AllocError> {
+    for (before, after) in orders {
+        if *before < graph.node_count() && *after < graph.node_count() {
+            graph.order(NodeId(*before), NodeId(*after))?;
+        }
+    }
+    Ok(())
 }

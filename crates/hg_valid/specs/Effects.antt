@@ -3,7 +3,7 @@ use Rattle.std.specs.Prelude.{◌≡◌, ℕ, ◌<◌, ◌≤◌, Bool, true, Li
 use Rattle.hg_ops.specs.Op.{is_effect}
 use Rattle.hg_graph.specs.Graph.{Graph, op_at, parent_at}
 use Rattle.hg_graph.specs.Ordered.{HasEffect}
-use Rattle.hg_paths.specs.Chains.{is_marked}
+use Rattle.walks.specs.Counts.{is_marked}
 
 -- a mark for each node, which says whether it is an effect node
 pub record AreEffects (g : Graph) (marks : List Bool) : Type 0 where

@@ -3,7 +3,7 @@ use Rattle.std.specs.Prelude.{◌≡◌, ◌≢◌, ℕ, ◌+◌, ◌<◌, ◌�
 use Rattle.hg_ops.specs.Op.{is_dataflow_container}
 use Rattle.gp_base.specs.Membership.{In}
 use Rattle.hg_graph.specs.Graph.{Graph, op_at, children}
-use Rattle.hg_paths.specs.Chains.{is_marked}
+use Rattle.walks.specs.Counts.{is_marked}
 
 -- marked children have different counts
 pub record AreApart (g : Graph) (c : ℕ) (marks : List Bool) (counts : List ℕ) : Type 0 where

@@ -3,7 +3,7 @@ use Rattle.std.specs.Prelude.{◌≡◌, ℕ, ◌<◌, List, length, slice_get, 
 use Rattle.hg_ops.specs.Op.{ins_of}
 use Rattle.hg_graph.specs.Graph.{Graph, Link, Ports, Order, op_at}
 use Rattle.hg_graph.specs.Valid.{Edge}
-use Rattle.hg_paths.specs.Walks.{Leads}
+use Rattle.walks.specs.Walks.{Leads}
 
 -- there is a link, and it is a value link or an order link from node a to node b
 abbrev pub Joins : Graph → Option Link → ℕ → ℕ → Type 0

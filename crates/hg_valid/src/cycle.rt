@@ -8,8 +8,8 @@ ghost use Rattle.hg_valid.specs.Broken.{EarlierHold, FirstToBreak};
 
 use crate::successors::successors_of;
 use hg_graph::{Graph, NodeId};
-use hg_paths::first_back;
 use std::alloc::{AllocError, Global};
+use walks::first_back;
 
 /// The least node on a cycle of value and order links; `None` exactly where no node is on one.
 pub(crate) fn first_on_cycle(alloc: Global, graph: &Graph) -> Result<Option<NodeId>, AllocError>

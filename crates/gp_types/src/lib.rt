@@ -2,12 +2,14 @@
 #![tactic(auto)]
 
 pub mod builtins;
+pub mod limit;
 pub mod names;
 pub mod same;
 pub mod signature;
 pub mod ty;
 
 pub use builtins::{Builtin, BuiltinParameter, BuiltinType};
+pub use limit::TYPE_SIZE_LIMIT;
 pub use names::builtin;
 pub use same::{copy, same_type};
 pub use signature::{Mode, SigParam, SigParams, Signature};

@@ -12,7 +12,7 @@ use crate::fault::TypeFault;
 use crate::frame::{Frame, is_borrowed};
 use crate::places::place_type;
 use gp_base::LineNo;
-use gp_environment::Environment;
+use gp_locals::Environment;
 use gp_tree::{Place, Targets};
 use gp_types::{Ty, copy, same_type};
 use std::alloc::Global;

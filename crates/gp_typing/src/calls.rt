@@ -7,86 +7,21 @@ ghost use Rattle.gp_types.specs.Signature.{parameter_view};
 ghost use Rattle.gp_types.specs.Types.{tys_of, fields_of};
 ghost use Rattle.gp_types.specs.View.{ty_view, field_view};
 ghost use Rattle.gp_typing.specs.declared.fault.TypeFault.TheVariants.{Mismatch, WrongCount};
-ghost use Rattle.gp_typing.specs.CallView.{callee_view, callee_in, arguments_view, count_with, do_fit, trees_with, tag_of};
+ghost use Rattle.gp_locals.specs.CalleeView.{callee_view};
+ghost use Rattle.gp_typing.specs.CallView.{arguments_view, count_with, do_fit, trees_with, tag_of};
 ghost use Rattle.gp_typing.specs.Checks.{Answers, check};
 ghost use Rattle.gp_typing.specs.Expressions as spec;
 ghost use Rattle.gp_typing.specs.View.{expression_view, expressions_view};
 
-use crate::context::Context;
 use crate::fault::TypeFault;
 use crate::operators::{is_bool, is_int};
 use crate::typed::{TypedExpr, TypedExprs, TypedKind};
 use crate::value::Values;
 use gp_base::{LineNo, Name, TextBytes};
+use gp_locals::{Callee, is_tag, takes_tag};
 use gp_tree::{Expr, copy_name, copy_text};
-use gp_types::{
-    Builtin, BuiltinParameter, BuiltinType, Field, SigParam, Signature, Ty, Tys, builtin, copy,
-    same_type,
-};
+use gp_types::{BuiltinParameter, BuiltinType, Field, SigParam, Ty, Tys, copy, same_type};
 use std::alloc::{AllocError, Global};
-
-/// What a call calls.
-#[derive(Clone, Copy)]
-pub enum Callee<'a> {
-    /// A written function.
-    Written(&'a Signature),
-    /// A struct that the call makes.
-    Made(&'a Ty),
-    /// A built-in function.
-    BuiltIn(Builtin),
-}
-
-/// What a call of this name calls; `None` where it can't be called. Takes no memory.
-pub fn find_callee<'a>(context: &Context<'a>, name: &str) -> Option<Callee<'a>>
-    ensures { option_map callee_view result ≡ callee_in context.now name.now }
-{
-    if context.names.position(name).is_some() {
-        return None;
-    }
-    if let Some(signature) = context.scope.signature(name) {
-        return Some(Callee::Written(signature));
-    }
-    if let Some(ty) = context.scope.struct_type(name) {
-        return Some(Callee::Made(ty));
-    }
-    if !context.scope.imports(name) {
-        return None;
-    }
-    match builtin(name) {
-        Some(function) => Some(Callee::BuiltIn(function)),
-        None => None,
-    }
-}
-
-/// Whether the call takes a tag: that of the built-in function `result` does. Takes no memory.
-pub fn takes_tag(callee: &Callee<'_>) -> bool
-    ensures { result ≡ spec.takes_tag (callee_view callee.now) }
-{
-    matches!(callee, Callee::BuiltIn(Builtin::Result))
-}
-
-fn is_tag_character(byte: u8) -> bool
-    ensures { result ≡ spec.is_tag_character byte }
-{
-    byte >= 32 && byte <= 126 && byte != 92
-}
-
-fn all_tag_characters(text: &[u8]) -> bool
-    ensures { result ≡ spec.all_tag_characters text.now }
-{
-    for byte in text {
-        if !is_tag_character(*byte) {
-            return false;
-        }
-    }
-    true
-}
-
-fn is_tag(text: &[u8]) -> bool
-    ensures { result ≡ spec.is_tag text.now }
-{
-    !text.is_empty() && text.len() <= 255 && all_tag_characters(text)
-}
 
 /// The tag of a call that takes one: its first argument where that is a string. A string that is no tag is a `Mismatch`.
 pub fn find_tag(

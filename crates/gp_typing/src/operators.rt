@@ -15,7 +15,7 @@ use crate::typed::{TypedExpr, TypedKind};
 use crate::value::{Value, Values, into_expr};
 use gp_base::LineNo;
 use gp_tree::BinOp;
-use gp_types::{Ty, copy, same_type, size};
+use gp_types::{TYPE_SIZE_LIMIT, Ty, copy, same_type, size};
 use std::alloc::Global;
 
 /// Whether the type is `int`. Takes no memory.
@@ -181,7 +181,7 @@ pub fn tuple(line: LineNo, values: Values) -> Result<TypedExpr, TypeFault>
     ensures { Answers expression_view result (spec.tupled line (values_view values)) }
 {
     let ty = Ty::Tuple(values.types);
-    if size(&ty) > 64 {
+    if size(&ty) > TYPE_SIZE_LIMIT {
         return Err(TypeFault::TooBigType(line));
     }
     Ok(of_type(ty, TypedKind::Tuple(values.exprs)))

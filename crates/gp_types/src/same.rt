@@ -6,7 +6,6 @@ ghost use Rattle.gp_types.specs.Types.{tys_of};
 ghost use Rattle.gp_types.specs.View.{ty_view, field_view};
 
 use crate::ty::{Field, Fields, Ty, Tys};
-use gp_base::Name;
 use std::alloc::{AllocError, Global};
 
 /// Whether two types are equal: struct types where their names are, tuple types part by part. Takes no memory.
@@ -48,10 +47,7 @@ pub fn copy(alloc: Global, ty: &Ty) -> Result<Ty, AllocError>
         Ty::Bool => Ok(Ty::Bool),
         Ty::Qubit => Ok(Ty::Qubit),
         Ty::Tuple(items) => Ok(Ty::Tuple(copy_items(alloc, items)?)),
-        Ty::Struct(name, fields) => Ok(Ty::Struct(
-            Name::new(alloc, name.as_str())?,
-            copy_fields(alloc, fields)?,
-        )),
+        Ty::Struct(name, fields) => Ok(Ty::Struct(name.copy()?, copy_fields(alloc, fields)?)),
     }
 }
 
@@ -73,7 +69,7 @@ fn copy_fields(alloc: Global, fields: &[Field]) -> Result<Fields, AllocError>
     let mut made = Vec::new(alloc);
     for field in fields {
         made.push(Field {
-            name: Name::new(alloc, field.name.as_str())?,
+            name: field.name.copy()?,
             ty: copy(alloc, &field.ty)?,
         })?;
     }

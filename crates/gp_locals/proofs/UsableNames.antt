@@ -83,10 +83,10 @@ length_nothing : (names : Names) → length (nothing_usable names) ≡ length na
 length_nothing [] = refl
 length_nothing (name ∷ names) = ap suc (length_nothing names)
 
-pub lists_new : {X : Type 0} (text : X → List ℕ) (xs : List X) (names : Names) (us : List UsableName) → map text xs ≡ names → us ≡ []
+pub lists_new : (xs names : Names) (us : List UsableName) → xs ≡ names → us ≡ []
     → Lists (length xs) us (nothing_usable names)
-lists_new text xs names us h e = record {
-  as_many = length_nothing names ∙ ap length (sym h) ∙ length-map xs text;
+lists_new xs names us h e = record {
+  as_many = length_nothing names ∙ ap length (sym h);
   are = e ∙ sym (usable_nothing 0 names);
 }
 

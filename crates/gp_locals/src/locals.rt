@@ -17,47 +17,82 @@ use std::marker::Model;
 /// contract sees them as a list, in the order of their first appearance.
 #[derive(Drop)]
 pub struct Locals {
-    names: IndexSet<String>,
+    // Their places.
+    places: NameSet,
+    // The names, which all who list them share.
+    names: Vec<Name>,
 }
 
 impl Model for Locals {
-    ghost use Rattle.std.specs.Prelude.{List, ℕ, map, string_bytes};
+    ghost use Rattle.std.specs.Prelude.{◌≡◌, List, ℕ};
 
     ghost Value = { List (List ℕ) };
 
-    ghost view = { λ l. map string_bytes l.names.keys };
+    ghost view = { λ l. l.places };
+
+    ghost invariant = { λ l. l.names.items ≡ l.places };
 }
 
 impl Locals {
-    /// No names. Takes no memory.
-    pub fn new(alloc: Global) -> Locals
-        ensures { result ≡ [] }
-    {
-        Locals {
-            names: IndexSet::new(alloc),
-        }
-    }
-
     /// The place of a name among them, counted from 0; `None` exactly where it is none of them.
     pub fn position(&self, name: &str) -> Option<usize>
         ensures { result ≡ place_among self.now name.now }
     {
-        self.names.get_index_of(name)
+        self.places.position(name)
     }
 
     /// The names in order.
-    pub fn as_slice(&self) -> &[String]
+    pub fn as_slice(&self) -> &[Name]
+        ensures { result.now ≡ self.now }
+    {
+        &self.names
+    }
+}
+
+// Names, each once, in the order in which they came.
+#[derive(Drop)]
+struct NameSet {
+    texts: IndexSet<String>,
+}
+
+impl Model for NameSet {
+    ghost use Rattle.std.specs.Prelude.{List, ℕ, map, string_bytes};
+
+    ghost Value = { List (List ℕ) };
+
+    ghost view = { λ s. map string_bytes s.texts.keys };
+}
+
+impl NameSet {
+    // No names. Takes no memory.
+    fn new(alloc: Global) -> NameSet
+        ensures { result ≡ [] }
+    {
+        NameSet {
+            texts: IndexSet::new(alloc),
+        }
+    }
+
+    // The place of a name among them.
+    fn position(&self, name: &str) -> Option<usize>
+        ensures { result ≡ place_among self.now name.now }
+    {
+        self.texts.get_index_of(name)
+    }
+
+    // The names in order.
+    fn as_slice(&self) -> &[String]
         ensures { map string_bytes result.now ≡ self.now }
     {
-        self.names.as_slice()
+        self.texts.as_slice()
     }
 
     // Adds a name where it isn't there.
     fn add(&mut self, alloc: Global, name: &str) -> Result<(), AllocError>
         ensures { OnOk result (self.new ≡ with_name self.old name.now) }
     {
-        if !self.names.contains(name) {
-            self.names.insert(String::from_str(alloc, name)?)?;
+        if !self.texts.contains(name) {
+            self.texts.insert(String::from_str(alloc, name)?)?;
         }
         Ok(())
     }
@@ -67,16 +102,28 @@ impl Locals {
 pub fn locals_of(alloc: Global, params: &[SigParam], body: &[Stmt]) -> Result<Locals, AllocError>
     ensures { IfOk result (λ names. names ≡ locals (parameter_names (map parameter_view params.now)) (statements body.now)) }
 {
-    let mut names = Locals::new(alloc);
+    let mut places = NameSet::new(alloc);
     for param in params {
-        names.add(alloc, param.name.as_str())?;
+        places.add(alloc, param.name.as_str())?;
     }
-    add_block(alloc, &mut names, body)?;
+    add_block(alloc, &mut places, body)?;
+    let names = names_in(alloc, places.as_slice())?;
+    Ok(Locals { places, names })
+}
+
+// The names with these texts.
+fn names_in(alloc: Global, texts: &[String]) -> Result<Vec<Name>, AllocError>
+    ensures { IfOk result (λ names. names.items ≡ map string_bytes texts.now) }
+{
+    let mut names = Vec::new(alloc);
+    for text in texts {
+        names.push(Name::new(alloc, text.as_str())?)?;
+    }
     Ok(names)
 }
 
 #[cycle(add_block)]
-fn add_block(alloc: Global, names: &mut Locals, block: &[Stmt]) -> Result<(), AllocError>
+fn add_block(alloc: Global, names: &mut NameSet, block: &[Stmt]) -> Result<(), AllocError>
     ensures { OnOk result (names.new ≡ with_names names.old (names_of_block (statements block.now))) }
 {
     for stmt in block {
@@ -86,7 +133,7 @@ fn add_block(alloc: Global, names: &mut Locals, block: &[Stmt]) -> Result<(), Al
 }
 
 #[cycle(add_block)]
-fn add_stmt(alloc: Global, names: &mut Locals, stmt: &Stmt) -> Result<(), AllocError>
+fn add_stmt(alloc: Global, names: &mut NameSet, stmt: &Stmt) -> Result<(), AllocError>
     ensures { OnOk result (names.new ≡ with_names names.old (names_of_statement (statement stmt.now))) }
 {
     match stmt {
@@ -110,7 +157,7 @@ fn add_stmt(alloc: Global, names: &mut Locals, stmt: &Stmt) -> Result<(), AllocE
     }
 }
 
-fn add_targets(alloc: Global, names: &mut Locals, targets: &Targets) -> Result<(), AllocError>
+fn add_targets(alloc: Global, names: &mut NameSet, targets: &Targets) -> Result<(), AllocError>
     ensures { OnOk result (names.new ≡ with_names names.old (names_of_targets targets.now)) }
 {
     match targets {
@@ -120,7 +167,7 @@ fn add_targets(alloc: Global, names: &mut Locals, targets: &Targets) -> Result<(
 }
 
 #[tactic(auto, using(crate::proofs::Names::with_names_append))]
-fn add_places(alloc: Global, names: &mut Locals, places: &[Place]) -> Result<(), AllocError>
+fn add_places(alloc: Global, names: &mut NameSet, places: &[Place]) -> Result<(), AllocError>
     ensures { OnOk result (names.new ≡ with_names names.old (flat_map names_of_place places.now)) }
 {
     for place in places {
@@ -130,7 +177,7 @@ fn add_places(alloc: Global, names: &mut Locals, places: &[Place]) -> Result<(),
 }
 
 // A place with fields names no name of the function.
-fn add_place(alloc: Global, names: &mut Locals, place: &Place) -> Result<(), AllocError>
+fn add_place(alloc: Global, names: &mut NameSet, place: &Place) -> Result<(), AllocError>
     ensures { OnOk result (names.new ≡ with_names names.old (names_of_place place.now)) }
 {
     if place.fields.as_slice().is_empty() {

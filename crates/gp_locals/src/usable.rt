@@ -1,6 +1,7 @@
 //! The usable names of an environment, as a list by ascending positions.
 
-ghost use Rattle.std.specs.Prelude.{◌≡◌, ◌≤◌, [], ◌++◌, ◌^◌, ◌-◌, min, IfOk, OnErr, OnOk, filter, length, map, option_map, slice_get, string_bytes};
+ghost use Rattle.std.specs.Prelude.{◌≡◌, ◌≤◌, [], ◌++◌, ◌^◌, ◌-◌, min, IfOk, OnErr, OnOk, filter, length, map, option_map, slice_get};
+ghost use Rattle.std.specs.Option.{option_copied};
 ghost use Rattle.std.specs.List.{list_all};
 ghost use Rattle.gp_types.specs.View.{ty_view};
 ghost use Rattle.gp_locals.specs.Usable as spec;
@@ -8,7 +9,7 @@ ghost use Rattle.gp_locals.specs.View.{name_view, usable_view};
 
 use crate::name_type::{NameType, NameTypes};
 use gp_base::{Name, Sequence};
-use gp_types::{Ty, copy, same_type, size};
+use gp_types::{Ty, same_type, size};
 use std::alloc::{AllocError, Global};
 
 /// A usable name with its type, by its position among the names of the function, counted from 0.
@@ -82,17 +83,17 @@ pub(crate) fn copy_usable(
 {
     let mut made = Vec::new(alloc);
     for name in usable {
-        made.push(copy_name(alloc, name)?)?;
+        made.push(copy_name(name)?)?;
     }
     Ok(made)
 }
 
-fn copy_name(alloc: Global, name: &UsableName) -> Result<UsableName, AllocError>
+fn copy_name(name: &UsableName) -> Result<UsableName, AllocError>
     ensures { IfOk result (λ made. usable_view made ≡ usable_view name.now) }
 {
     Ok(UsableName {
         position: name.position,
-        ty: copy(alloc, &name.ty)?,
+        ty: name.ty.copy()?,
     })
 }
 
@@ -117,7 +118,7 @@ pub(crate) fn join_usable(
     let mut joined = Vec::new(alloc);
     for name in usable {
         if is_kept_among(others, name) {
-            joined.push(copy_name(alloc, name)?)?;
+            joined.push(copy_name(name)?)?;
         }
     }
     Ok(joined)
@@ -146,30 +147,16 @@ pub(crate) fn sizes(usable: &[UsableName]) -> u64
     total
 }
 
-// The name at a position, where there is one.
-fn name_at(names: &[String], position: usize) -> Option<&str>
-    ensures { option_map (λ name. name.now) result ≡ slice_get (map string_bytes names.now) position }
-{
-    match names.get(position) {
-        Some(name) => Some(name.as_str()),
-        None => None,
-    }
-}
-
 // Lists a name with its type, where there is one.
-fn list_name(
-    alloc: Global,
-    listed: &mut NameTypes,
-    name: Option<&str>,
-    ty: &Ty,
-) -> Result<(), AllocError>
+fn list_name(listed: &mut NameTypes, name: Option<&Name>, ty: &Ty) -> Result<(), AllocError>
     ensures { OnOk result (map name_view listed.new
-        ≡ map name_view listed.old ++ spec.with_name_at (option_map (λ name. name.now) name.entry) (ty_view ty.now) []) }
+        ≡ map name_view listed.old ++ spec.with_name_at (option_copied name.entry) (ty_view ty.now) []) }
 {
     if let Some(name) = name {
-        let name = Name::new(alloc, name)?;
-        let ty = copy(alloc, ty)?;
-        listed.push(NameType { name, ty })?;
+        listed.push(NameType {
+            name: name.copy()?,
+            ty: ty.copy()?,
+        })?;
     }
     Ok(())
 }
@@ -178,14 +165,14 @@ fn list_name(
 #[tactic(auto, using(crate::proofs::UsableNames::with_name_append))]
 pub(crate) fn by_names(
     alloc: Global,
-    names: &[String],
+    names: &[Name],
     usable: &[UsableName],
 ) -> Result<NameTypes, AllocError>
-    ensures { IfOk result (λ listed. map name_view listed ≡ spec.by_names (map string_bytes names.now) (map usable_view usable.now)) }
+    ensures { IfOk result (λ listed. map name_view listed ≡ spec.by_names names.now (map usable_view usable.now)) }
 {
     let mut listed = Sequence::new(alloc);
     for name in usable {
-        list_name(alloc, &mut listed, name_at(names, name.position), &name.ty)?;
+        list_name(&mut listed, names.get(name.position), &name.ty)?;
     }
     Ok(listed)
 }

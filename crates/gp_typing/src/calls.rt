@@ -2,7 +2,6 @@
 
 ghost use Rattle.std.specs.Prelude.{◌≡◌, IfOk, eqb, map, option_map};
 ghost use Rattle.gp_tree.specs.Expression.{expressions};
-ghost use Rattle.gp_types.specs.Same as same;
 ghost use Rattle.gp_types.specs.Signature.{parameter_view};
 ghost use Rattle.gp_types.specs.Types.{tys_of, fields_of};
 ghost use Rattle.gp_types.specs.View.{ty_view, field_view};
@@ -19,8 +18,8 @@ use crate::typed::{TypedExpr, TypedExprs, TypedKind};
 use crate::value::Values;
 use gp_base::{LineNo, Name, TextBytes};
 use gp_locals::{Callee, is_tag, takes_tag};
-use gp_tree::{Expr, copy_name, copy_text};
-use gp_types::{BuiltinParameter, BuiltinType, Field, SigParam, Ty, Tys, copy, same_type};
+use gp_tree::{Expr, copy_text};
+use gp_types::{BuiltinParameter, BuiltinType, Field, SigParam, Ty, Tys, same_types};
 use std::alloc::{AllocError, Global};
 
 /// The tag of a call that takes one: its first argument where that is a string. A string that is no tag is a `Mismatch`.
@@ -79,7 +78,7 @@ fn written_types(alloc: Global, params: &[SigParam]) -> Result<Tys, AllocError>
 {
     let mut made = Vec::new(alloc);
     for param in params {
-        made.push(copy(alloc, &param.ty)?)?;
+        made.push(param.ty.copy()?)?;
     }
     Ok(made)
 }
@@ -89,7 +88,7 @@ fn field_types(alloc: Global, fields: &[Field]) -> Result<Tys, AllocError>
 {
     let mut made = Vec::new(alloc);
     for field in fields {
-        made.push(copy(alloc, &field.ty)?)?;
+        made.push(field.ty.copy()?)?;
     }
     Ok(made)
 }
@@ -114,22 +113,22 @@ fn parameter_types(alloc: Global, callee: &Callee<'_>) -> Result<Tys, AllocError
     }
 }
 
-fn copy_result(alloc: Global, ty: &Option<Ty>) -> Result<Option<Ty>, AllocError>
+fn copy_result(ty: &Option<Ty>) -> Result<Option<Ty>, AllocError>
     ensures { IfOk result (λ made. option_map ty_view made ≡ option_map ty_view ty.now) }
 {
     match ty {
-        Some(ty) => Ok(Some(copy(alloc, ty)?)),
+        Some(ty) => Ok(Some(ty.copy()?)),
         None => Ok(None),
     }
 }
 
 // The type of a callee's answer, where it has one.
-fn answer_of(alloc: Global, callee: &Callee<'_>) -> Result<Option<Ty>, AllocError>
+fn answer_of(callee: &Callee<'_>) -> Result<Option<Ty>, AllocError>
     ensures { IfOk result (λ made. option_map ty_view made ≡ spec.callee_answer (callee_view callee.now)) }
 {
     match callee {
-        Callee::Written(signature) => copy_result(alloc, &signature.result),
-        Callee::Made(ty) => Ok(Some(copy(alloc, ty)?)),
+        Callee::Written(signature) => copy_result(&signature.result),
+        Callee::Made(ty) => Ok(Some(ty.copy()?)),
         Callee::BuiltIn(function) => match function.answer() {
             Some(ty) => Ok(Some(built_in_type(ty))),
             None => Ok(None),
@@ -145,13 +144,6 @@ fn is_reported(tag: &Option<TextBytes>, types: &[Ty]) -> bool
         (Some(_), [ty]) => is_int(ty) || is_bool(ty),
         _ => false,
     }
-}
-
-// Whether two rows of types are the same.
-fn same_types(types: Tys, others: Tys) -> bool
-    ensures { result ≡ same.same_types (tys_of (map ty_view types.items)) (tys_of (map ty_view others.items)) }
-{
-    same_type(&Ty::Tuple(types), &Ty::Tuple(others))
 }
 
 // The number of arguments that a call of the callee takes, where its parameters have these types.
@@ -199,7 +191,7 @@ fn fit(callee: &Callee<'_>, tag: &Option<TextBytes>, types: Tys, parameters: Tys
     if takes_tag(callee) {
         is_reported(tag, &types)
     } else {
-        same_types(types, parameters)
+        same_types(&types, &parameters)
     }
 }
 
@@ -252,8 +244,8 @@ pub fn call(
     let parameters = parameter_types(alloc, callee)?;
     check_count(line, callee, &tag, &types, &parameters)?;
     check_types(line, callee, &tag, types, parameters)?;
-    let ty = answer_of(alloc, callee)?;
-    let name = copy_name(alloc, name)?;
+    let ty = answer_of(callee)?;
+    let name = name.copy()?;
     let exprs = with_tag(tag, exprs)?;
     Ok(TypedExpr {
         ty,

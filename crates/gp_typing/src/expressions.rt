@@ -20,7 +20,7 @@ use crate::value::{Value, Values, value_of};
 use gp_base::Name;
 use gp_locals::{find_callee, takes_tag};
 use gp_tree::{Expr, Place};
-use gp_types::{Ty, copy};
+use gp_types::Ty;
 use std::alloc::Global;
 
 /// An expression with its type. Parts are checked from left to right, inner ones first, and a rule of an expression's
@@ -104,7 +104,7 @@ fn type_values(
     let mut values = Values::new(alloc);
     for i in first..exprs.len() {
         let value = type_value(alloc, context, &exprs[i])?;
-        values.push(alloc, value)?;
+        values.push(value)?;
     }
     Ok(values)
 }
@@ -113,7 +113,7 @@ fn type_place(alloc: Global, context: &Context<'_>, place: &Place) -> Result<Typ
     ensures { Answers expression_view result (place_of context.now.names.now context.now.environment.now context.now.line place.now) }
 {
     let ty = place_type(context.names, context.environment, context.line, place)?;
-    let ty = copy(alloc, ty)?;
+    let ty = ty.copy()?;
     let place = place.copy(alloc)?;
     Ok(TypedExpr {
         ty: Some(ty),

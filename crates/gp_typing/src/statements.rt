@@ -29,8 +29,8 @@ use crate::typed::{TypedExpr, TypedStmt, TypedStmtKind, TypedStmts};
 use crate::value::into_expr;
 use gp_base::{LineNo, Name};
 use gp_locals::{Environment, NameTypes};
-use gp_tree::{Expr, Stmt, Targets, TypeExpr, copy_name};
-use gp_types::{Ty, copy, same_type};
+use gp_tree::{Expr, Stmt, Targets, TypeExpr};
+use gp_types::{Ty, same_type};
 use std::alloc::{AllocError, Global};
 
 /// A block, from what is usable before it, where a path leads there. A statement that no path reaches is `Unreachable`.
@@ -253,7 +253,7 @@ fn check_assign(
         (statement_in frame.now environment (stmt.assign line targets.now (expression value.now))) }
 {
     let value = value_in(alloc, frame, &environment, line, value)?;
-    assign_targets(alloc, frame, &mut environment, line, targets, &value.ty)?;
+    assign_targets(frame, &mut environment, line, targets, &value.ty)?;
     let targets = targets.copy(alloc)?;
     Ok(StatementTyping {
         kind: TypedStmtKind::Assign(line, targets, into_expr(value)),
@@ -277,9 +277,9 @@ fn check_annotated(
 {
     let value = value_in(alloc, frame, &environment, line, value)?;
     check_written(frame, line, &value.ty)?;
-    let ty = copy(alloc, &value.ty)?;
+    let ty = value.ty.copy()?;
     assign_name(frame, &mut environment, line, name.as_str(), ty)?;
-    let name = copy_name(alloc, name)?;
+    let name = name.copy()?;
     let written = written.copy(alloc)?;
     Ok(StatementTyping {
         kind: TypedStmtKind::Annotated(line, name, written, into_expr(value)),
@@ -509,7 +509,7 @@ fn end_for(
     }
     let BlockTyping { stmts, ends } = body;
     let block = into_block(stmts, &ends);
-    let name = copy_name(alloc, name)?;
+    let name = name.copy()?;
     let next = join_reached(alloc, Some(head), ends.breaks)?;
     Ok(StatementTyping {
         kind: TypedStmtKind::For(line, name, count, block),

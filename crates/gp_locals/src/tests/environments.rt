@@ -63,7 +63,7 @@ fn numbers(alloc: Global, count: usize) -> Result<Ty, AllocError> {
     for _part in 0..count {
         parts.push(Ty::Int)?;
     }
-    Ok(Ty::Tuple(parts))
+    Ty::tuple(parts)
 }
 
 #[test]

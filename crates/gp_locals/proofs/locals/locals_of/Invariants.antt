@@ -5,4 +5,4 @@ use Rattle.gp_locals.proofs.locals.locals_of.Given as goal
 
 -- with the parameters that are left, those of all
 abbrev pub invariant-loop-param : goal.invariant-loop-param
-invariant-loop-param l = with_names l.names (map parameter_name (drop l.param-index l.params)) ≡ with_names [] (map parameter_name l.params)
+invariant-loop-param l = with_names l.places (map parameter_name (drop l.param-index l.params)) ≡ with_names [] (map parameter_name l.params)

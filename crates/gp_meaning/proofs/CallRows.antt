@@ -6,8 +6,8 @@ use Rattle.std.specs.Prelude.{All}
 use Rattle.std.specs.declared.alloc.Global.{Global}
 use Rattle.std.specs.declared.vec.Vec.{Vec}
 use Rattle.gp_base.specs.Tag.{IsTag, IsPrintable}
-use Rattle.gp_callee.specs.Callee.{Callee, takes_tag}
-use Rattle.gp_callee.specs.Tag.{is_tag, is_tag_character, all_tag_characters}
+use Rattle.gp_locals.specs.Callee.{Callee, takes_tag}
+use Rattle.gp_locals.specs.Tag.{is_tag, is_tag_character, all_tag_characters}
 use Rattle.gp_types.specs.Types.{Field, fields_of}
 use Rattle.gp_types.specs.View.{ty_view, field_view}
 use Rattle.gp_types.specs.declared.ty.Ty as declared_ty

@@ -3,8 +3,8 @@ use Rattle.std.proofs.Common.{◌≡◌, ℕ, ◌<◌, List, [], ◌∷◌, Opti
 use Rattle.gp_base.specs.declared.event.GateName.TheVariants as gate
 use Rattle.gp_base.specs.Run.{Run, Stuck}
 use Rattle.gp_base.specs.World.{World, allocate, free, measure, measure_free, reset, apply_gate, apply_gate_on_two, apply_gate_on_three, rotate}
-use Rattle.gp_callee.specs.Callee.{Callee, Written, Made, BuiltIn, callee_of}
-use Rattle.gp_environment.specs.Environment.{Names}
+use Rattle.gp_locals.specs.Callee.{Callee, Written, Made, BuiltIn, callee_of}
+use Rattle.gp_locals.specs.Environment.{Names}
 use Rattle.gp_tree.specs.Expression as expr
 use Rattle.gp_tree.specs.Expression.{Expression, Expressions, no_expressions, with_expression}
 use Rattle.gp_tree.specs.declared.place.Place.{Place}

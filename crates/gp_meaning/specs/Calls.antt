@@ -4,9 +4,9 @@ use Rattle.gp_base.specs.declared.event.Event.TheVariants as event
 use Rattle.gp_base.specs.declared.event.GateName.TheVariants as gate
 use Rattle.gp_base.specs.Run.{Run, Stuck, stop, ret, ◌>>=◌}
 use Rattle.gp_base.specs.World.{World, allocate, free, apply_gate, apply_gate_on_two, apply_gate_on_three, rotate, reset, measure, measure_free, does, take_turn}
-use Rattle.gp_callee.specs.Callee.{Callee, Written, Made, BuiltIn, takes_tag}
-use Rattle.gp_callee.specs.Tag.{is_tag}
-use Rattle.gp_environment.specs.Environment.{Names}
+use Rattle.gp_locals.specs.Callee.{Callee, Written, Made, BuiltIn, takes_tag}
+use Rattle.gp_locals.specs.Tag.{is_tag}
+use Rattle.gp_locals.specs.Environment.{Names}
 use Rattle.gp_tree.specs.Expression as expr
 use Rattle.gp_tree.specs.Expression.{Expression, Expressions, no_expressions, with_expression}
 use Rattle.gp_types.specs.Types as types
@@ -14,8 +14,6 @@ use Rattle.gp_types.specs.Types.{Ty, Fields}
 use Rattle.gp_types.specs.Builtins.{parameters_of}
 use Rattle.gp_types.specs.declared.builtins.Builtin.{Builtin}
 use Rattle.gp_types.specs.declared.builtins.Builtin.TheVariants as built_in
-use Rattle.gp_types.specs.declared.signature.Mode.{Mode}
-use Rattle.gp_types.specs.declared.signature.Mode.TheVariants.{Borrowed}
 use Rattle.gp_meaning.specs.Value.{Value, number, boolean, qubit, number_of, qubit_of, structure, FieldValues, no_fields, with_field}
 use Rattle.gp_meaning.specs.State.{State, found, assign_place}
 
@@ -124,10 +122,6 @@ called functions (Made ty) name tag vs = gives (Some (structure (struct_fields t
 called functions (BuiltIn b) name tag vs = performed b tag vs
 
 -- ---- borrowed arguments
-
-abbrev pub is_borrowed : Mode → Bool
-is_borrowed Borrowed = true
-is_borrowed _ = false
 
 -- a final value goes to the place of its argument, where that is a place
 abbrev pub put_back : Names → Expression → Value → Run State (Unit {0})

@@ -2,7 +2,7 @@
 use Rattle.std.specs.Prelude.{ℕ, List, [], ◌∷◌, length, ◌==◌, if◌then◌else◌, map, Option, Some, None, slice_index_or, slice_set}
 use Rattle.gp_base.specs.Run.{Out, Run, Returned, Stopped, Stuck, stop, ret, ◌>>=◌}
 use Rattle.gp_base.specs.World.{World}
-use Rattle.gp_environment.specs.Environment.{Names, place_among}
+use Rattle.gp_locals.specs.Environment.{Names, place_among}
 use Rattle.gp_tree.specs.declared.place.Place.{Place}
 use Rattle.gp_tree.specs.declared.place.Targets.{Targets}
 use Rattle.gp_tree.specs.declared.place.Targets.TheVariants as targets

@@ -1,8 +1,8 @@
 //! What calls take and give.
 
 ghost use Rattle.std.specs.Prelude.{◌≡◌, Some, [], IfOk, map, option_map};
-ghost use Rattle.gp_callee.specs.Tag.{is_tag};
-ghost use Rattle.gp_callee.specs.View.{callee_view};
+ghost use Rattle.gp_locals.specs.Tag.{is_tag};
+ghost use Rattle.gp_locals.specs.CalleeView.{callee_view};
 ghost use Rattle.gp_tree.specs.Expression.{expression, expressions};
 ghost use Rattle.gp_types.specs.Types.{fields_of};
 ghost use Rattle.gp_types.specs.View.{ty_view};
@@ -16,8 +16,7 @@ use crate::halt::Halt;
 use crate::value::{FieldValue, FieldValues, Value, Values, copy};
 use crate::variables::Variables;
 use gp_base::{Name, Tag, TextBytes};
-use gp_callee::{Callee, is_tag, takes_tag};
-use gp_environment::Locals;
+use gp_locals::{Callee, Locals, is_tag, takes_tag};
 use gp_tree::Expr;
 use gp_types::{Builtin, Field, Ty};
 use std::alloc::{AllocError, Global};

@@ -6,7 +6,7 @@ ghost use Rattle.gp_meaning.specs.View.{value_view, values_view, variables_view,
 
 use crate::halt::Halt;
 use crate::value::{Value, copy, part_at, with_part};
-use gp_environment::Locals;
+use gp_locals::Locals;
 use gp_tree::{Place, Targets};
 use std::alloc::{AllocError, Global};
 

@@ -11,10 +11,8 @@ ghost use Rattle.gp_scope.specs.NamesOf.{AreNames};
 
 use crate::names::{Names, value_of};
 use gp_tree::{FieldDecl, TypeExpr};
+use gp_types::TYPE_SIZE_LIMIT;
 use std::alloc::{AllocError, Global};
-
-/// The limit on the size of one type.
-pub const LIMIT: u64 = 64;
 
 // What stands for every size above the limit.
 const ABOVE: u64 = 65;
@@ -26,10 +24,10 @@ const ABOVE: u64 = 65;
 /// whole size.
 pub fn struct_sizes(alloc: Global, names: &Names) -> Result<Vec<u64>, AllocError>
     requires { AreNames names.now }
-    ensures { IfOk result (λ sizes. (name : List ℕ) → value_in names.now.structs sizes.items name ≡ level_size LIMIT (program_items names.now.items.now) name) }
+    ensures { IfOk result (λ sizes. (name : List ℕ) → value_in names.now.structs sizes.items name ≡ level_size TYPE_SIZE_LIMIT (program_items names.now.items.now) name) }
 {
     let mut sizes = Vec::new(alloc);
-    for _round in 0..LIMIT {
+    for _round in 0..TYPE_SIZE_LIMIT {
         sizes = next_sizes(alloc, names, &sizes)?;
     }
     Ok(sizes)

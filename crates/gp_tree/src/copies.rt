@@ -2,7 +2,7 @@
 
 ghost use Rattle.std.specs.Prelude.{◌≡◌, IfOk};
 
-use gp_base::{Name, Names, Sequence, TextBytes};
+use gp_base::{Names, Sequence, TextBytes};
 use std::alloc::{AllocError, Global};
 
 /// The same text once more.
@@ -17,13 +17,6 @@ pub fn copy_text(alloc: Global, text: &TextBytes) -> Result<TextBytes, AllocErro
     Ok(copy)
 }
 
-/// The same name once more.
-pub fn copy_name(alloc: Global, name: &Name) -> Result<Name, AllocError>
-    ensures { IfOk result (λ copy. copy ≡ name.now) }
-{
-    Name::new(alloc, name.as_str())
-}
-
 /// The same names once more, in their order.
 pub fn copy_names(alloc: Global, names: &Names) -> Result<Names, AllocError>
     ensures { IfOk result (λ copy. copy ≡ names.now) }
@@ -31,7 +24,7 @@ pub fn copy_names(alloc: Global, names: &Names) -> Result<Names, AllocError>
     let mut copy = Sequence::new(alloc);
     let all = names.as_slice();
     for name in all {
-        copy.push(copy_name(alloc, name)?)?;
+        copy.push(name.copy()?)?;
     }
     Ok(copy)
 }

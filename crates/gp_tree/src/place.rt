@@ -2,7 +2,7 @@
 
 ghost use Rattle.std.specs.Prelude.{◌≡◌, IfOk};
 
-use crate::copies::{copy_name, copy_names};
+use crate::copies::copy_names;
 use gp_base::{Name, Names, Sequence};
 use std::alloc::{AllocError, Global};
 
@@ -21,7 +21,7 @@ impl Place {
         ensures { IfOk result (λ copy. copy ≡ self.now) }
     {
         Ok(Place {
-            name: copy_name(alloc, &self.name)?,
+            name: self.name.copy()?,
             fields: copy_names(alloc, &self.fields)?,
         })
     }

@@ -2,7 +2,7 @@
 
 use crate::builtins::{Builtin, BuiltinParameter, BuiltinType};
 use crate::names::builtin;
-use crate::same::{copy, same_type};
+use crate::same::same_type;
 use crate::signature::{Mode, SigParam, Signature};
 use crate::ty::{Field, Fields, Ty, Tys, is_linear, leaf_count, size};
 use gp_base::{GateName, Name, Sequence};
@@ -24,22 +24,21 @@ fn fields(alloc: Global, last: Ty) -> Result<Fields, AllocError> {
 
 // A struct with two qubits and a field of this type.
 fn pair(alloc: Global, last: Ty) -> Result<Ty, AllocError> {
-    let name = Name::new(alloc, "Pair")?;
-    Ok(Ty::Struct(name, fields(alloc, last)?))
+    Ty::structure(Name::new(alloc, "Pair")?, fields(alloc, last)?)
 }
 
 fn tuple(alloc: Global, first: Ty, second: Ty) -> Result<Ty, AllocError> {
     let mut items: Tys = Vec::new(alloc);
     items.push(first)?;
     items.push(second)?;
-    Ok(Ty::Tuple(items))
+    Ty::tuple(items)
 }
 
 #[test]
 fn types_have_sizes_leaves_and_linearity(rt: HostRuntime) -> Result<(), Fail> {
     let alloc = rt.alloc();
     let nested = pair(alloc, pair(alloc, Ty::Bool)?)?;
-    let empty = Ty::Struct(Name::new(alloc, "Unit")?, Vec::new(alloc));
+    let empty = Ty::structure(Name::new(alloc, "Unit")?, Vec::new(alloc))?;
     let cases = [
         ("int", Ty::Int, 1, 1, false),
         ("bool", Ty::Bool, 1, 1, false),
@@ -81,14 +80,14 @@ fn types_have_sizes_leaves_and_linearity(rt: HostRuntime) -> Result<(), Fail> {
 fn struct_types_are_equal_by_name(rt: HostRuntime) -> Result<(), Fail> {
     let alloc = rt.alloc();
     let one = pair(alloc, Ty::Int)?;
-    let other = Ty::Struct(Name::new(alloc, "Other")?, fields(alloc, Ty::Int)?);
-    assert!(rt; same_type(&one, &copy(alloc, &one)?));
+    let other = Ty::structure(Name::new(alloc, "Other")?, fields(alloc, Ty::Int)?)?;
+    assert!(rt; same_type(&one, &one.copy()?));
     assert!(rt; !same_type(&one, &other));
     assert!(rt; !same_type(&Ty::Int, &Ty::Bool));
     assert!(rt; !same_type(&Ty::Int, &one));
     let tuple_of_one = tuple(alloc, Ty::Int, one)?;
     let tuple_of_other = tuple(alloc, Ty::Int, other)?;
-    assert!(rt; same_type(&tuple_of_one, &copy(alloc, &tuple_of_one)?));
+    assert!(rt; same_type(&tuple_of_one, &tuple_of_one.copy()?));
     assert!(rt; !same_type(&tuple_of_one, &tuple_of_other));
     Ok(())
 }

@@ -1,11 +1,11 @@
 -- Typed statements in memory, in a row.
 use Rattle.std.proofs.Common.{rules, ◌≡◌, List, [], ◌∷◌, ◌++◌, map, refl, sym, ap, ◌∙◌}
-use Rattle.gp_environment.specs.declared.name_type.NameType as name_type
+use Rattle.gp_locals.specs.declared.name_type.NameType as name_type
 use Rattle.gp_typing.specs.declared.typed.TypedStmt as q
 use Rattle.gp_typing.specs.declared.typed.TypedStmtKind as kinds
 use Rattle.gp_typing.specs.Pieces.{append_statements}
 use Rattle.gp_typing.specs.Typed.{TypedStatements, behind, no_statements, with_statement}
-use Rattle.gp_environment.specs.View.{name_view}
+use Rattle.gp_locals.specs.View.{name_view}
 use Rattle.gp_typing.specs.View.{statement_kind_view, statement_view, statements_view}
 
 statement_view-of : (s : q.TypedStmt) → statement_view s ≡ behind (map name_view s.before) (statement_kind_view s.kind)

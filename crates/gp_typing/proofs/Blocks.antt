@@ -10,7 +10,7 @@ use Rattle.gp_tree.specs.Statement.{Statement, Statements}
 use Rattle.gp_typing.specs.declared.fault.TypeFault.{TypeFault}
 use Rattle.gp_typing.specs.declared.fault.TypeFault.TheVariants.{Mismatch, TooManyPlaces, BorrowedAssigned}
 use Rattle.gp_typing.specs.Checks.{Checked, ◌>>=◌, check, found}
-use Rattle.gp_environment.specs.Environment.{Environment, is_within, put}
+use Rattle.gp_locals.specs.Environment.{Environment, is_within, put}
 use Rattle.gp_typing.specs.Expressions.{Value, is_bool, is_int, typing, valued}
 use Rattle.gp_scope.specs.Known.{Known}
 use Rattle.gp_typing.specs.Pieces.{tested, counted, ended_annotated, append_statements, joined_block, with_last, next_of, continued}

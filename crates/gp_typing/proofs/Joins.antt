@@ -5,7 +5,7 @@ use Rattle.std.proofs.lemmas.Slice.Eq.{bytes_eq-Decides}
 use Rattle.gp_types.specs.Types as types
 use Rattle.gp_types.specs.Types.{Ty, Tys}
 use Rattle.gp_types.specs.Same.{same_type, same_types}
-use Rattle.gp_environment.specs.Environment.{Environment, common, join, join_reached}
+use Rattle.gp_locals.specs.Environment.{Environment, common, join, join_reached}
 use Rattle.gp_typing.specs.Statements.{Ends, after, goes_on}
 
 bytes_eq-along : (n o p : List ℕ) → bytes_eq n o ≡ true → bytes_eq n p ≡ bytes_eq o p

@@ -4,7 +4,7 @@ use Rattle.gp_base.specs.declared.name.LineNo.{LineNo}
 use Rattle.gp_tree.specs.Statement.{Statements}
 use Rattle.gp_typing.specs.declared.fault.TypeFault.TheVariants.{TooManyPlaces, MissingReturn}
 use Rattle.gp_typing.specs.Checks.{Checked, ◌>>=◌, check}
-use Rattle.gp_environment.specs.Environment.{Environment, is_within}
+use Rattle.gp_locals.specs.Environment.{Environment, is_within}
 use Rattle.gp_scope.specs.Known.{Known}
 use Rattle.gp_typing.specs.Statements.{Frame, block_typing, block_of}
 use Rattle.gp_typing.specs.Typed.{TypedBlock}

@@ -9,5 +9,6 @@ pub mod Functions
 pub mod View
 pub mod StatementView
 pub mod Pieces
+pub mod Compound
 pub mod FunctionView
 pub mod TypedView

@@ -7,7 +7,7 @@ use Rattle.gp_types.specs.Types as types
 use Rattle.gp_types.specs.Same.{same_type}
 use Rattle.gp_typing.specs.declared.fault.TypeFault.TheVariants.{Mismatch}
 use Rattle.gp_typing.specs.Checks.{Checked, ◌>>=◌, check, found}
-use Rattle.gp_environment.specs.Environment.{Names, Environment}
+use Rattle.gp_locals.specs.Environment.{Names, Environment}
 use Rattle.gp_typing.specs.Expressions.{Value, has_type, is_int, is_bool, answer_type, place_type}
 use Rattle.gp_typing.specs.Typed as typed
 use Rattle.gp_typing.specs.Typed.{TypedExpression}

@@ -9,7 +9,7 @@ use Rattle.gp_types.specs.Same.{same_type}
 use Rattle.gp_tree.specs.TypeExpression.{TypeExpression}
 use Rattle.gp_typing.specs.declared.fault.TypeFault.TheVariants.{Mismatch, TooManyPlaces, Unreachable, LoopChangesType, BorrowedAssigned}
 use Rattle.gp_typing.specs.Checks.{Checked, ◌>>=◌, check, found}
-use Rattle.gp_environment.specs.Environment.{Environment, NameType, is_within, join_reached, put, usable}
+use Rattle.gp_locals.specs.Environment.{Environment, NameType, is_within, join_reached, put, usable}
 use Rattle.gp_typing.specs.Expressions.{Value, is_bool, is_int}
 use Rattle.gp_scope.specs.Known.{Known}
 use Rattle.gp_typing.specs.Statements.{Frame, StatementTyping, BlockTyping, after, after_while, block_of, block_typing, comes_back, goes_on, line_of, one_of, statement_typing, typed_as}

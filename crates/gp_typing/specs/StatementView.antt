@@ -9,7 +9,7 @@ use Rattle.gp_typing.specs.declared.ends.StatementTyping as declared_statement
 use Rattle.gp_typing.specs.declared.ends.BlockTyping as declared_block
 use Rattle.gp_typing.specs.declared.frame.Frame as declared_frame
 use Rattle.gp_typing.specs.Checks.{Checked}
-use Rattle.gp_environment.specs.Environment.{Environment}
+use Rattle.gp_locals.specs.Environment.{Environment}
 use Rattle.gp_typing.specs.Expressions.{Value, valued, typing}
 use Rattle.gp_typing.specs.Functions.{is_borrowed_among}
 use Rattle.gp_scope.specs.Known.{Known}

@@ -11,7 +11,7 @@ use Rattle.gp_typing.specs.declared.typed.TypedStmtKind.TheOpen.{TypedStmt-F, Ty
 use Rattle.gp_typing.specs.declared.typed.TypedStmtKind as statement_kind
 use Rattle.gp_typing.specs.declared.typed.TypedBlock as block
 use Rattle.gp_typing.specs.declared.typed.TypedFunction as function
-use Rattle.gp_environment.specs.View.{name_view}
+use Rattle.gp_locals.specs.View.{name_view}
 use Rattle.gp_typing.specs.Typed.{TypedExpression, of_type, TypedKind, TypedExpressions, no_expressions, with_expression, TypedStatement, behind, TypedStatementKind, TypedStatements, no_statements, with_statement, TypedBlock, TypedFunction}
 use Rattle.gp_typing.specs.Typed as typed
 

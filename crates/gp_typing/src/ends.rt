@@ -2,13 +2,13 @@
 
 ghost use Rattle.std.specs.Prelude.{◌≡◌, IfOk, None};
 ghost use Rattle.gp_tree.specs.Expression.{expression};
-ghost use Rattle.gp_environment.specs.Environment as env;
+ghost use Rattle.gp_locals.specs.Environment as env;
 ghost use Rattle.gp_typing.specs.Statements as spec;
 ghost use Rattle.gp_typing.specs.StatementView.{ends_view, block_view};
 ghost use Rattle.gp_typing.specs.View as view;
 
 use crate::typed::{TypedBlock, TypedStmtKind, TypedStmts};
-use gp_environment::Environment;
+use gp_locals::Environment;
 use gp_tree::Expr;
 use std::alloc::{AllocError, Global};
 
@@ -114,7 +114,7 @@ pub fn comes_back(environment: &Environment, body: &Ends) -> bool
     keeps_reached(environment, &body.next) && keeps_reached(environment, &body.continues)
 }
 
-/// Whether the types of the usable names have a total size of at most 128, where the place is reached.
+/// Whether the types of the usable names have a total size within the limit, where the place is reached.
 pub fn is_within_reached(there: &Option<Environment>) -> bool
     ensures { result ≡ env.is_within there.now }
 {
@@ -132,7 +132,6 @@ fn is_true(test: &Expr) -> bool
 }
 
 /// What is usable after a `while` loop: with the test `True` only a `break` leads there.
-#[tactic(auto, using(crate::proofs::EndLemmas::after_while_is))]
 pub fn after_while(
     alloc: Global,
     test: &Expr,

@@ -15,7 +15,7 @@ use crate::typed::{TypedExpr, TypedKind};
 use crate::value::{Value, Values, into_expr};
 use gp_base::LineNo;
 use gp_tree::BinOp;
-use gp_types::{Ty, copy, same_type, size};
+use gp_types::{TYPE_SIZE_LIMIT, Ty, same_type, size};
 use std::alloc::Global;
 
 /// Whether the type is `int`. Takes no memory.
@@ -169,19 +169,19 @@ pub fn choice(
     if !(is_bool(&test.ty) && same_type(&value.ty, &other.ty)) {
         return Err(TypeFault::Mismatch(line));
     }
-    let ty = copy(alloc, &value.ty)?;
+    let ty = value.ty.copy()?;
     let test = Box::new(alloc, into_expr(test))?;
     let value = Box::new(alloc, into_expr(value))?;
     let other = Box::new(alloc, into_expr(other))?;
     Ok(of_type(ty, TypedKind::Choice(test, value, other)))
 }
 
-/// The parts of a tuple. Takes no memory.
+/// The parts of a tuple.
 pub fn tuple(line: LineNo, values: Values) -> Result<TypedExpr, TypeFault>
     ensures { Answers expression_view result (spec.tupled line (values_view values)) }
 {
-    let ty = Ty::Tuple(values.types);
-    if size(&ty) > 64 {
+    let ty = Ty::tuple(values.types)?;
+    if size(&ty) > TYPE_SIZE_LIMIT {
         return Err(TypeFault::TooBigType(line));
     }
     Ok(of_type(ty, TypedKind::Tuple(values.exprs)))

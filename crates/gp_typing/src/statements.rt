@@ -10,10 +10,11 @@ ghost use Rattle.gp_types.specs.View.{ty_view};
 ghost use Rattle.gp_typing.specs.Checks.{Answers};
 ghost use Rattle.gp_typing.specs.Statements as spec;
 ghost use Rattle.gp_typing.specs.StatementView.{block_view, statement_view, frame_view, known_for, value_in, statement_in, block_in};
+ghost use Rattle.gp_typing.specs.Compound.{if_in, while_in, for_in, next_in};
 ghost use Rattle.gp_typing.specs.Pieces.{tested, counted, named, written, ended_annotated, ended_if, ended_while, ended_for, ended_next, append_statements, with_typed, next_of};
 ghost use Rattle.gp_typing.specs.Typed as typed;
 ghost use Rattle.gp_typing.specs.Typed.{behind, no_statements, with_statement};
-ghost use Rattle.gp_environment.specs.View.{name_view};
+ghost use Rattle.gp_locals.specs.View.{name_view};
 ghost use Rattle.gp_typing.specs.View.{expression_view, statement_kind_view, statements_view};
 
 use crate::assignments::{assign_name, assign_targets};
@@ -27,9 +28,9 @@ use crate::operators::{is_bool, is_int};
 use crate::typed::{TypedExpr, TypedStmt, TypedStmtKind, TypedStmts};
 use crate::value::into_expr;
 use gp_base::{LineNo, Name};
-use gp_environment::{Environment, NameTypes};
-use gp_tree::{Expr, Stmt, Targets, TypeExpr, copy_name};
-use gp_types::{Ty, copy, same_type};
+use gp_locals::{Environment, NameTypes};
+use gp_tree::{Expr, Stmt, Targets, TypeExpr};
+use gp_types::{Ty, same_type};
 use std::alloc::{AllocError, Global};
 
 /// A block, from what is usable before it, where a path leads there. A statement that no path reaches is `Unreachable`.
@@ -47,26 +48,39 @@ pub fn check_block(
         ends: goes_on(start),
     };
     for stmt in block {
-        let line = line_of(stmt);
-        let BlockTyping { stmts, ends } = typed;
-        let Ends {
-            next,
-            breaks,
-            continues,
-        } = ends;
-        let Some(environment) = next else {
-            return Err(TypeFault::Unreachable(line));
-        };
-        let before = environment.usable(alloc, frame.names)?;
-        let statement = check_statement(alloc, stmt, frame, environment)?;
-        let ends = Ends {
-            next: None,
-            breaks,
-            continues,
-        };
-        typed = add_statement(alloc, line, BlockTyping { stmts, ends }, before, statement)?;
+        typed = check_next(alloc, stmt, frame, typed)?;
     }
     Ok(typed)
+}
+
+// The block with one more statement behind it.
+#[cycle(statements)]
+fn check_next(
+    alloc: Global,
+    stmt: &Stmt,
+    frame: &Frame<'_>,
+    block: BlockTyping,
+) -> Result<BlockTyping, TypeFault>
+    ensures { Answers block_view result (next_in frame.now (block_view block) (statement stmt.now)) }
+{
+    let line = line_of(stmt);
+    let BlockTyping { stmts, ends } = block;
+    let Ends {
+        next,
+        breaks,
+        continues,
+    } = ends;
+    let Some(environment) = next else {
+        return Err(TypeFault::Unreachable(line));
+    };
+    let before = environment.usable(alloc, frame.names)?;
+    let statement = check_statement(alloc, stmt, frame, environment)?;
+    let ends = Ends {
+        next: None,
+        breaks,
+        continues,
+    };
+    add_statement(alloc, line, BlockTyping { stmts, ends }, before, statement)
 }
 
 // The block with this statement behind it, where the types of the usable names there are within the limit.
@@ -154,28 +168,76 @@ fn check_statement(
         Stmt::Evaluate(line, value) => check_evaluate(alloc, frame, environment, *line, value),
         Stmt::Return(line, value) => check_return(alloc, frame, &environment, *line, value),
         Stmt::If(line, test, body, other) => {
-            let test = check_test(alloc, frame, &environment, *line, test)?;
-            let inside = environment.copy(alloc)?;
-            let body = check_block(alloc, body, frame, Some(inside))?;
-            let other = check_block(alloc, other, frame, Some(environment))?;
-            end_if(alloc, *line, test, body, other)
+            check_if(alloc, frame, environment, *line, test, body, other)
         }
-        Stmt::While(line, test, body) => {
-            let typed = check_test(alloc, frame, &environment, *line, test)?;
-            let inside = environment.copy(alloc)?;
-            let body = check_block(alloc, body, frame, Some(inside))?;
-            end_while(alloc, *line, test, typed, environment, body)
-        }
+        Stmt::While(line, test, body) => check_while(alloc, frame, environment, *line, test, body),
         Stmt::For(line, name, count, body) => {
-            let count = check_count(alloc, frame, &environment, *line, count)?;
-            let inside = check_counting(alloc, frame, &environment, *line, name)?;
-            let body = check_block(alloc, body, frame, Some(inside))?;
-            end_for(alloc, *line, name, count, environment, body)
+            check_for(alloc, frame, environment, *line, name, count, body)
         }
         Stmt::Break(line) => Ok(check_break(*line, environment)),
         Stmt::Continue(line) => Ok(check_continue(*line, environment)),
         Stmt::Pass(line) => Ok(check_pass(*line, environment)),
     }
+}
+
+// `if` with its two blocks: the test, then the blocks.
+#[cycle(statements)]
+fn check_if(
+    alloc: Global,
+    frame: &Frame<'_>,
+    environment: Environment,
+    line: LineNo,
+    test: &Expr,
+    body: &[Stmt],
+    other: &[Stmt],
+) -> Result<StatementTyping, TypeFault>
+    ensures { Answers statement_view result
+        (if_in frame.now environment line (expression test.now) (statements body.now) (statements other.now)) }
+{
+    let test = check_test(alloc, frame, &environment, line, test)?;
+    let inside = environment.copy(alloc)?;
+    let body = check_block(alloc, body, frame, Some(inside))?;
+    let other = check_block(alloc, other, frame, Some(environment))?;
+    end_if(alloc, line, test, body, other)
+}
+
+// `while`: the test, then the body.
+#[cycle(statements)]
+fn check_while(
+    alloc: Global,
+    frame: &Frame<'_>,
+    environment: Environment,
+    line: LineNo,
+    test: &Expr,
+    body: &[Stmt],
+) -> Result<StatementTyping, TypeFault>
+    ensures { Answers statement_view result
+        (while_in frame.now environment line (expression test.now) (statements body.now)) }
+{
+    let typed = check_test(alloc, frame, &environment, line, test)?;
+    let inside = environment.copy(alloc)?;
+    let body = check_block(alloc, body, frame, Some(inside))?;
+    end_while(alloc, line, test, typed, environment, body)
+}
+
+// `for`: the count, then the name, then the body.
+#[cycle(statements)]
+fn check_for(
+    alloc: Global,
+    frame: &Frame<'_>,
+    environment: Environment,
+    line: LineNo,
+    name: &Name,
+    count: &Expr,
+    body: &[Stmt],
+) -> Result<StatementTyping, TypeFault>
+    ensures { Answers statement_view result
+        (for_in frame.now environment line name.now (expression count.now) (statements body.now)) }
+{
+    let count = check_count(alloc, frame, &environment, line, count)?;
+    let inside = check_counting(alloc, frame, &environment, line, name)?;
+    let body = check_block(alloc, body, frame, Some(inside))?;
+    end_for(alloc, line, name, count, environment, body)
 }
 
 // `targets = value`: the value, then the targets.
@@ -191,7 +253,7 @@ fn check_assign(
         (statement_in frame.now environment (stmt.assign line targets.now (expression value.now))) }
 {
     let value = value_in(alloc, frame, &environment, line, value)?;
-    assign_targets(alloc, frame, &mut environment, line, targets, &value.ty)?;
+    assign_targets(frame, &mut environment, line, targets, &value.ty)?;
     let targets = targets.copy(alloc)?;
     Ok(StatementTyping {
         kind: TypedStmtKind::Assign(line, targets, into_expr(value)),
@@ -215,9 +277,9 @@ fn check_annotated(
 {
     let value = value_in(alloc, frame, &environment, line, value)?;
     check_written(frame, line, &value.ty)?;
-    let ty = copy(alloc, &value.ty)?;
+    let ty = value.ty.copy()?;
     assign_name(frame, &mut environment, line, name.as_str(), ty)?;
-    let name = copy_name(alloc, name)?;
+    let name = name.copy()?;
     let written = written.copy(alloc)?;
     Ok(StatementTyping {
         kind: TypedStmtKind::Annotated(line, name, written, into_expr(value)),
@@ -447,7 +509,7 @@ fn end_for(
     }
     let BlockTyping { stmts, ends } = body;
     let block = into_block(stmts, &ends);
-    let name = copy_name(alloc, name)?;
+    let name = name.copy()?;
     let next = join_reached(alloc, Some(head), ends.breaks)?;
     Ok(StatementTyping {
         kind: TypedStmtKind::For(line, name, count, block),

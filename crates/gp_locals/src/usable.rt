@@ -1,0 +1,178 @@
+//! The usable names of an environment, as a list by ascending positions.
+
+ghost use Rattle.std.specs.Prelude.{◌≡◌, ◌≤◌, [], ◌++◌, ◌^◌, ◌-◌, min, IfOk, OnErr, OnOk, filter, length, map, option_map, slice_get};
+ghost use Rattle.std.specs.Option.{option_copied};
+ghost use Rattle.std.specs.List.{list_all};
+ghost use Rattle.gp_types.specs.View.{ty_view};
+ghost use Rattle.gp_locals.specs.Usable as spec;
+ghost use Rattle.gp_locals.specs.View.{name_view, usable_view};
+
+use crate::name_type::{NameType, NameTypes};
+use gp_base::{Name, Sequence};
+use gp_types::{Ty, same_type, size};
+use std::alloc::{AllocError, Global};
+
+/// A usable name with its type, by its position among the names of the function, counted from 0.
+#[derive(Drop)]
+pub(crate) struct UsableName {
+    /// The position.
+    pub(crate) position: usize,
+    /// The type.
+    pub(crate) ty: Ty,
+}
+
+/// The type of the name at a position, where it is usable. Takes no memory.
+pub(crate) fn type_among(usable: &[UsableName], position: usize) -> Option<&Ty>
+    ensures { option_map (λ ty. ty_view ty.now) result ≡ spec.type_among position (map usable_view usable.now) }
+{
+    for name in usable {
+        if name.position == position {
+            return Some(&name.ty);
+        }
+    }
+    None
+}
+
+/// How many stand before the first that isn't below a position. Takes no memory.
+fn count_below(usable: &[UsableName], position: usize) -> usize
+    ensures exact { result ≡ spec.count_below position (map usable_view usable.now) }
+    ensures within { result ≤ length usable.now }
+{
+    for i in 0..usable.len() {
+        if usable[i].position >= position {
+            return i;
+        }
+    }
+    usable.len()
+}
+
+// Whether the name at a position stands in this place of the list.
+fn stands_at(usable: &[UsableName], at: usize, position: usize) -> bool
+    ensures { result ≡ spec.stands_at position (slice_get (map usable_view usable.now) at) }
+{
+    match usable.get(at) {
+        Some(name) => name.position == position,
+        None => false,
+    }
+}
+
+/// Gives the name at a position this type. After an error nothing has changed.
+pub(crate) fn put_among(
+    usable: &mut Vec<UsableName>,
+    position: usize,
+    ty: Ty,
+) -> Result<(), AllocError>
+    ensures put { OnOk result (map usable_view usable.new.items ≡ spec.put_among position (ty_view ty) (map usable_view usable.old.items)) }
+    ensures unchanged { OnErr result (usable.new.items ≡ usable.old.items) }
+{
+    let at = count_below(usable, position);
+    if stands_at(usable, at, position) {
+        usable[at] = UsableName { position, ty };
+    } else {
+        usable.insert(at, UsableName { position, ty })?;
+    }
+    Ok(())
+}
+
+/// The same usable names once more.
+pub(crate) fn copy_usable(
+    alloc: Global,
+    usable: &[UsableName],
+) -> Result<Vec<UsableName>, AllocError>
+    ensures { IfOk result (λ made. map usable_view made.items ≡ map usable_view usable.now) }
+{
+    let mut made = Vec::new(alloc);
+    for name in usable {
+        made.push(copy_name(name)?)?;
+    }
+    Ok(made)
+}
+
+fn copy_name(name: &UsableName) -> Result<UsableName, AllocError>
+    ensures { IfOk result (λ made. usable_view made ≡ usable_view name.now) }
+{
+    Ok(UsableName {
+        position: name.position,
+        ty: name.ty.copy()?,
+    })
+}
+
+// Whether a usable name has the same type among others.
+fn is_kept_among(others: &[UsableName], name: &UsableName) -> bool
+    ensures { result ≡ spec.is_kept_among (map usable_view others.now) (usable_view name.now) }
+{
+    match type_among(others, name.position) {
+        Some(ty) => same_type(&name.ty, ty),
+        None => false,
+    }
+}
+
+/// Those that have the same type among others.
+pub(crate) fn join_usable(
+    alloc: Global,
+    usable: &[UsableName],
+    others: &[UsableName],
+) -> Result<Vec<UsableName>, AllocError>
+    ensures { IfOk result (λ joined. map usable_view joined.items ≡ filter (spec.is_kept_among (map usable_view others.now)) (map usable_view usable.now)) }
+{
+    let mut joined = Vec::new(alloc);
+    for name in usable {
+        if is_kept_among(others, name) {
+            joined.push(copy_name(name)?)?;
+        }
+    }
+    Ok(joined)
+}
+
+/// Whether each has the same type among others. Takes no memory.
+pub(crate) fn are_kept(usable: &[UsableName], others: &[UsableName]) -> bool
+    ensures { result ≡ list_all (spec.is_kept_among (map usable_view others.now)) (map usable_view usable.now) }
+{
+    for name in usable {
+        if !is_kept_among(others, name) {
+            return false;
+        }
+    }
+    true
+}
+
+/// The sizes of their types, or 2^64 - 1 where they are more. Takes no memory.
+pub(crate) fn sizes(usable: &[UsableName]) -> u64
+    ensures { result ≡ min (spec.sizes (map usable_view usable.now)) (2 ^ 64 - 1) }
+{
+    let mut total: u64 = 0;
+    for name in usable {
+        total = total.saturating_add(size(&name.ty));
+    }
+    total
+}
+
+// Lists a name with its type, where there is one.
+fn list_name(listed: &mut NameTypes, name: Option<&Name>, ty: &Ty) -> Result<(), AllocError>
+    ensures { OnOk result (map name_view listed.new
+        ≡ map name_view listed.old ++ spec.with_name_at (option_copied name.entry) (ty_view ty.now) []) }
+{
+    if let Some(name) = name {
+        listed.push(NameType {
+            name: name.copy()?,
+            ty: ty.copy()?,
+        })?;
+    }
+    Ok(())
+}
+
+/// The usable names by their names, in the same order.
+#[tactic(auto, using(crate::proofs::UsableNames::with_name_append))]
+pub(crate) fn by_names(
+    alloc: Global,
+    names: &[Name],
+    usable: &[UsableName],
+) -> Result<NameTypes, AllocError>
+    ensures { IfOk result (λ listed. map name_view listed ≡ spec.by_names names.now (map usable_view usable.now)) }
+{
+    let mut listed = Sequence::new(alloc);
+    for name in usable {
+        list_name(&mut listed, names.get(name.position), &name.ty)?;
+    }
+    Ok(listed)
+}

@@ -2,7 +2,7 @@
 use Rattle.std.proofs.Common.{◌≡◌, ◌≢◌, ℕ, zero, suc, ◌+◌, ◌-◌, ◌<◌, ◌≤◌, Bool, true, false, ◌&&◌, cond, List, [], ◌∷◌, ◌++◌, length, take, drop, map, filter, get_or, refl, sym, ap, ◌∙◌, subst, Option, Some, None, Result, Ok, Err, not, min, ◌^◌, ◌⊎◌, arith, add-one, append-nil, append_assoc, inl, inr}
 use Rattle.std.proofs.lemmas.Bool.{false≢true, cases_lt, lt-leb, le-leb, lt-ltb, le-ltb, ltb-true, ltb-false, eq-eqb, ne_eqb, eqb-true}
 use Rattle.std.specs.Prelude.{slice_set, slice_get, ltb, leb, eqb, OnOk, OnErr}
-use Rattle.std.proofs.lemmas.List.{length-map, map-set}
+use Rattle.std.proofs.lemmas.List.{map-set}
 use Rattle.std.specs.List.{list_all, insert}
 use Rattle.gp_types.specs.Types.{Ty}
 use Rattle.gp_types.specs.Same.{same_type}

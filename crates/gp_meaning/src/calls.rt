@@ -15,7 +15,7 @@ use crate::built_ins::Called;
 use crate::halt::Halt;
 use crate::value::{FieldValue, FieldValues, Value, Values, copy};
 use crate::variables::Variables;
-use gp_base::{Name, Tag, TextBytes};
+use gp_base::{Tag, TextBytes};
 use gp_locals::{Callee, Locals, is_tag, takes_tag};
 use gp_tree::Expr;
 use gp_types::{Builtin, Field, Ty};
@@ -122,7 +122,7 @@ fn field_values(
     for i in 0..fields.len() {
         if i < values.len() {
             made.push(FieldValue {
-                name: Name::new(alloc, fields[i].name.as_str())?,
+                name: fields[i].name.copy()?,
                 value: copy(alloc, &values[i])?,
             })?;
         }

@@ -71,7 +71,7 @@ fn copy_fields(alloc: Global, fields: &[FieldValue]) -> Result<FieldValues, Allo
     let mut made = Vec::new(alloc);
     for field in fields {
         made.push(FieldValue {
-            name: Name::new(alloc, field.name.as_str())?,
+            name: field.name.copy()?,
             value: copy(alloc, &field.value)?,
         })?;
     }

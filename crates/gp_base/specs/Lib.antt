@@ -8,4 +8,5 @@ pub mod Run
 pub mod StoredBytes
 pub mod StoredFiles
 pub mod Tag
+pub mod Truth
 pub mod World

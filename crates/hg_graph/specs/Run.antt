@@ -3,7 +3,8 @@ use Rattle.std.specs.Prelude.{ℕ, zero, suc, ◌%◌, ℤ, pos, int_lt, int_le,
 use Rattle.gp_base.specs.declared.event.Event.TheVariants as event
 use Rattle.gp_base.specs.declared.event.GateName.TheVariants as gate
 use Rattle.gp_base.specs.Number.{sum, difference, product, negated, quotient, remainder, is_same}
-use Rattle.gp_base.specs.Run.{Run, Out, Returned, Stopped, DivisionByZero, Stuck, ◌>>=◌, ret, stop}
+use Rattle.gp_base.specs.Run.{Run, Out, Returned, Stopped, DivisionByZero, Stuck, ◌>>=◌, ret, stop, or_stuck}
+use Rattle.gp_base.specs.Truth.{same_truth}
 use Rattle.gp_base.specs.World.{World, allocate, free, apply_gate, apply_gate_on_two, apply_gate_on_three, rotate, reset, measure, measure_free, does, take_turn}
 use Rattle.hg_ops.specs.Op as op
 use Rattle.hg_ops.specs.Op.{Op, Extension, Arithmetic, Division, Comparison, BoolComparison, ins_of, one_qubit_name, two_qubit_name, rotation_name}
@@ -142,9 +143,6 @@ compared op.Le a b = int_le a b
 compared op.Gt a b = int_lt b a
 compared op.Ge a b = int_le b a
 
-abbrev pub same_truth : Bool → Bool → Bool
-same_truth a b = if a then b else not b
-
 abbrev pub compared_bools : BoolComparison → Bool → Bool → Bool
 compared_bools op.BoolEq a b = same_truth a b
 compared_bools op.BoolNe a b = not (same_truth a b)
@@ -217,10 +215,6 @@ pick_from x xs (k ∷ picks) s = Returned (slice_index_or (x ∷ xs) (k % suc (l
 abbrev pub choose : {N A : Type 0} → List A → Run (State N) A
 choose [] s = stop Stuck s
 choose (x ∷ xs) s = pick_from x xs s.picks s
-
-abbrev pub or_stuck : {S A : Type 0} → Option A → Run S A
-or_stuck None = stop Stuck
-or_stuck (Some a) = ret a
 
 abbrev pub at_moment : {N : Type 0} → Note N → List Open → Run (State N) (Unit {0})
 at_moment note regions s = Returned tt (record s { notes = note regions s.world s.notes })

@@ -4,7 +4,7 @@ use Rattle.std.specs.Prelude.{slice_get, pos, ◌==◌, not, FitsSigned}
 use Rattle.std.specs.Int.{w64}
 use Rattle.std.proofs.lemmas.Int.{SFits-int_wrap}
 use Rattle.gp_base.specs.Number.{is_same, negated}
-use Rattle.gp_base.specs.Run.{Run, Out, Returned, Stopped, DivisionByZero, Stuck, ◌>>=◌, ret, stop}
+use Rattle.gp_base.specs.Run.{Run, Out, Returned, Stopped, DivisionByZero, Stuck, ◌>>=◌, ret, stop, or_stuck}
 use Rattle.gp_base.specs.declared.event.Event.TheVariants as event
 use Rattle.gp_base.specs.declared.event.GateName.TheVariants as name
 use Rattle.gp_base.specs.World.{World, allocate, free, measure, measure_free, reset, apply_gate, apply_gate_on_two, apply_gate_on_three, rotate, does, take_turn}
@@ -12,7 +12,7 @@ use Rattle.gp_base.specs.Membership.{In}
 use Rattle.hg_ops.specs.Op as op
 use Rattle.hg_ops.specs.Op.{Op, Extension, Arithmetic, Division, one_qubit_name, two_qubit_name, rotation_name, FuncDefn, Const, Dfg, Cfg, DataflowBlock, ExitBlock, Conditional, Case, TailLoop, Tag, Call, CallIndirect, LoadConstant, LoadFunction, Ext, ins_of}
 use Rattle.hg_graph.specs.Graph.{Graph, Link, Port, op_at, children, firing_children, feeder, taker, static_input}
-use Rattle.hg_graph.specs.Run.{Fired, Open, Look, outs_at, value_at, value_of, cons_both, pulled, inputs, ready, with_tuple, nothing, divide, divided, calculated, compared, compared_bools, perform_extension, perform, State, Note, no_note, with_world, on_world, choose, or_stuck, at_moment, Enter, at_node, at_port, with_variant, with_function, name_of_function, constant, after_turn, fire_op, fire, firings, region, after_round, jump, enter_op, level, resume, runs, world_out, run_function, graph_run}
+use Rattle.hg_graph.specs.Run.{Fired, Open, Look, outs_at, value_at, value_of, cons_both, pulled, inputs, ready, with_tuple, nothing, divide, divided, calculated, compared, compared_bools, perform_extension, perform, State, Note, no_note, with_world, on_world, choose, at_moment, Enter, at_node, at_port, with_variant, with_function, name_of_function, constant, after_turn, fire_op, fire, firings, region, after_round, jump, enter_op, level, resume, runs, world_out, run_function, graph_run}
 use Rattle.hg_graph.specs.Value.{Value, Int, Qubit, Variant, Function, Values, no_values, value, values, packed, truth, callee}
 use Rattle.hg_laws.specs.Fits.{Fits, PackedFit, AllFit, ReturnsFitting, ConstantsFit, NumbersFit}
 use Rattle.hg_laws.proofs.Runs.{Giving, Gives, then_gives, no_types, on_world_gives}

@@ -4,13 +4,13 @@ use Rattle.std.specs.Prelude.{slice_index_or}
 use Rattle.std.proofs.Math.Path.{fun_ext}
 use Rattle.std.proofs.lemmas.Bool.Decides.{eqb_tells}
 use Rattle.std.proofs.Math.Nat.{mod-lt}
-use Rattle.gp_base.specs.Run.{Run, Returned, Stuck, go_on, ◌>>=◌, ret, stop}
+use Rattle.gp_base.specs.Run.{Run, Returned, Stuck, go_on, ◌>>=◌, ret, stop, or_stuck}
 use Rattle.gp_base.specs.World.{World, start}
 use Rattle.hg_ops.specs.Op.{Op, Types, Module, FuncDefn, Const, Input, Output, Dfg, Cfg, DataflowBlock, ExitBlock, Conditional, Case, TailLoop, Tag, Call, CallIndirect, LoadConstant, LoadFunction, Ext, ins_of, outs_of, fires, is_dataflow_container, is_effect}
 use Rattle.gp_base.specs.Membership.{In}
 use Rattle.hg_graph.specs.Graph.{Graph, Port, op_at, children, firing_children, feeder, static_input}
 use Rattle.hg_graph.specs.Ordered.{HasEffect, own, inside, IsOrdered}
-use Rattle.hg_graph.specs.Run.{Fired, Open, Look, outs_at, has_fired, inputs, Ready, ready, perform, no_note, on_world, choose, pick_from, or_stuck, at_moment, Enter, at_port, name_of_function, constant, fire_op, fire, firings, world_out}
+use Rattle.hg_graph.specs.Run.{Fired, Open, Look, outs_at, has_fired, inputs, Ready, ready, perform, no_note, on_world, choose, pick_from, at_moment, Enter, at_port, name_of_function, constant, fire_op, fire, firings, world_out}
 use Rattle.hg_graph.specs.Valid.{Edge, Path, edge, joined}
 use Rattle.hg_graph.specs.Value.{Value, Int, Variant, Function, packed, HaveTypes, functions}
 use Rattle.hg_laws.proofs.Runs.{Giving, Shows, bind_shows}

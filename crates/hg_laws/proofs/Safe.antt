@@ -4,14 +4,14 @@ use Rattle.std.specs.Prelude.{slice_get}
 use Rattle.std.proofs.lemmas.Bool.{eqb-true, ltb-true}
 use Rattle.std.proofs.Math.Nat.{mod-lt}
 use Rattle.gp_base.specs.Clean.{world_after}
-use Rattle.gp_base.specs.Run.{Run, Out, Returned, Stopped, TurnsUsed, OutcomesUsed, DivisionByZero, Stuck, go_on, ◌>>=◌, ret}
+use Rattle.gp_base.specs.Run.{Run, Out, Returned, Stopped, TurnsUsed, OutcomesUsed, DivisionByZero, Stuck, go_on, ◌>>=◌, ret, or_stuck}
 use Rattle.gp_base.specs.World.{World, take_turn, turn_of}
 use Rattle.hg_ops.specs.GraphType.{sum_type, function_type}
 use Rattle.hg_ops.specs.Op.{Op, Types, Module, FuncDefn, Const, Input, Output, Dfg, Cfg, DataflowBlock, ExitBlock, Conditional, Case, TailLoop, Tag, Call, CallIndirect, LoadConstant, LoadFunction, Ext, ins_of, outs_of, fires, is_dataflow_container, inner_ins, inner_outs}
 use Rattle.gp_base.specs.Membership.{In}
 use Rattle.hg_graph.specs.Graph.{Graph, Port, op_at, children, firing_children, feeder, taker, static_input}
 use Rattle.hg_graph.specs.Moments.{FiredOnce, IsGoodOpen, AreGoodOpen, EndsWell}
-use Rattle.hg_graph.specs.Run.{Fired, Open, outs_at, has_fired, inputs, Ready, ready, perform, State, Note, with_world, on_world, choose, pick_from, or_stuck, at_moment, Enter, at_node, at_port, with_variant, with_function, name_of_function, constant, after_turn, fire_op, fire, firings, region, after_round, jump, enter_op, level, resume}
+use Rattle.hg_graph.specs.Run.{Fired, Open, outs_at, has_fired, inputs, Ready, ready, perform, State, Note, with_world, on_world, choose, pick_from, at_moment, Enter, at_node, at_port, with_variant, with_function, name_of_function, constant, after_turn, fire_op, fire, firings, region, after_round, jump, enter_op, level, resume}
 use Rattle.hg_graph.specs.Valid.{is_block, block_ins}
 use Rattle.hg_graph.specs.Value.{Value, Int, Qubit, Variant, Function, callee, values, HasType, HaveTypes, functions}
 use Rattle.hg_laws.proofs.Runs.{Giving, Gives, no_types}

@@ -1,7 +1,7 @@
 -- What a run returns has its types, in whatever world.
 use Rattle.std.proofs.Common.{◌≡◌, inl, inr, ℕ, zero, suc, ◌%◌, ◌<◌, Bool, true, false, cond, ltb, ℤ, List, [], ◌∷◌, ◌++◌, length, Option, Some, None, refl, sym, ap, ◌∙◌, subst, arith, mod-lt}
 use Rattle.std.specs.Prelude.{slice_get, slice_index_or}
-use Rattle.gp_base.specs.Run.{Run, Out, Returned, Stopped, ◌>>=◌, ret, stop}
+use Rattle.gp_base.specs.Run.{Run, Out, Returned, Stopped, ◌>>=◌, ret, stop, or_stuck}
 use Rattle.gp_base.specs.Number.{is_same}
 use Rattle.gp_base.specs.declared.event.Event.TheVariants as event
 use Rattle.gp_base.specs.declared.event.GateName.TheVariants as name
@@ -12,7 +12,7 @@ use Rattle.hg_ops.specs.Op as op
 use Rattle.hg_ops.specs.Op.{one_qubit_name, two_qubit_name, rotation_name, Op, Types, Extension, Module, FuncDefn, Const, Input, Output, Dfg, Cfg, DataflowBlock, ExitBlock, Conditional, Case, TailLoop, Tag, Call, CallIndirect, LoadConstant, LoadFunction, Ext, Division, extension_ins, extension_outs, ins_of, outs_of, is_dataflow_container, inner_ins, inner_outs}
 use Rattle.gp_base.specs.Membership.{In}
 use Rattle.hg_graph.specs.Graph.{Graph, Port, op_at, parent_at, children, firing_children, feeder, taker, static_input}
-use Rattle.hg_graph.specs.Run.{Fired, Open, outs_at, inputs, ready, with_tuple, nothing, divide, divided, perform_extension, perform, State, Note, on_world, choose, pick_from, or_stuck, at_moment, Enter, at_node, at_port, with_variant, with_function, name_of_function, constant, after_turn, fire_op, fire, firings, region, after_round, jump, enter_op, level, resume}
+use Rattle.hg_graph.specs.Run.{Fired, Open, outs_at, inputs, ready, with_tuple, nothing, divide, divided, perform_extension, perform, State, Note, on_world, choose, pick_from, at_moment, Enter, at_node, at_port, with_variant, with_function, name_of_function, constant, after_turn, fire_op, fire, firings, region, after_round, jump, enter_op, level, resume}
 use Rattle.hg_graph.specs.Valid.{is_block, block_ins}
 use Rattle.hg_graph.specs.Value.{Value, Int, Qubit, Variant, Function, values, packed, truth, callee, Functions, HasType, HaveTypes, functions}
 use Rattle.hg_laws.proofs.Runs.{Giving, Gives, then_gives, no_types, on_world_gives}

@@ -4,7 +4,7 @@ use gp_base::LineNo;
 use gp_form::FormFault;
 use gp_front::TextFault;
 use gp_lex::LexFault;
-use gp_nest::ParseFault;
+use gp_parse::ParseFault;
 use gp_scope::ScopeFault;
 use gp_typing::TypeFault;
 use std::alloc::{AllocError, Global};

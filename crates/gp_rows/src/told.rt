@@ -10,7 +10,7 @@ use crate::token_text::told_lines;
 use crate::type_text::told_types;
 use gp_front::check_text;
 use gp_lex::{Lines, lines};
-use gp_nest::program;
+use gp_parse::program;
 use gp_scope::collect;
 use gp_tree::Program;
 use std::alloc::{AllocError, Global};

@@ -7,6 +7,7 @@ pub mod event_text;
 mod fault_plan;
 pub mod files;
 pub mod laws;
+mod limit;
 pub mod memory_files;
 pub mod memory_sink;
 pub mod name;
@@ -17,6 +18,7 @@ pub mod tag;
 
 pub use event::{End, Event, Events, GateName};
 pub use files::{Failed, Files};
+pub use limit::SOURCE_LIMIT;
 pub use memory_files::MemoryFiles;
 pub use memory_sink::MemorySink;
 pub use name::{LineNo, Name, Names};

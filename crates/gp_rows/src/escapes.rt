@@ -1,6 +1,7 @@
 //! Text with escapes, repeated.
 
 use crate::malformed::Malformed;
+use gp_base::SOURCE_LIMIT;
 
 // How far an escape was read.
 #[derive(Clone, Copy)]
@@ -19,7 +20,7 @@ enum Escape {
 pub fn push_repeated(out: &mut Vec<u8>, text: &str, count: u32) -> Result<(), Malformed> {
     for turn in 0..count {
         push_turn(out, text, u64::from(turn).saturating_add(1))?;
-        if out.len() > 131_072 {
+        if out.len() > SOURCE_LIMIT {
             return Err(Malformed::TooLong);
         }
     }

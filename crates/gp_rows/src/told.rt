@@ -8,6 +8,7 @@ use crate::scope_text::told_scope;
 use crate::table::{Kind, Row};
 use crate::token_text::told_lines;
 use crate::type_text::told_types;
+use gp_base::SOURCE_LIMIT;
 use gp_front::check_text;
 use gp_lex::{Lines, lines};
 use gp_parse::program;
@@ -18,7 +19,7 @@ use std::alloc::{AllocError, Global};
 /// What is told of a row, in one line or more.
 pub fn answer(alloc: Global, row: &Row) -> Result<String, AllocError> {
     let text = row.text.as_slice();
-    if text.len() > 131_072 {
+    if text.len() > SOURCE_LIMIT {
         return format!(in alloc; "longer than a text may be");
     }
     let told = match row.kind {
@@ -39,7 +40,7 @@ pub fn answer(alloc: Global, row: &Row) -> Result<String, AllocError> {
 
 // The first fault of the text, or that it has none.
 fn told_first_fault(alloc: Global, text: &[u8]) -> Result<String, AllocError>
-    requires { length text.now ≤ 131072 }
+    requires { length text.now ≤ SOURCE_LIMIT }
 {
     match check_text(alloc, text) {
         Ok(_) => format!(in alloc; "Ok"),
@@ -48,7 +49,7 @@ fn told_first_fault(alloc: Global, text: &[u8]) -> Result<String, AllocError>
 }
 
 fn told_typed(alloc: Global, text: &[u8]) -> Result<String, AllocError>
-    requires { length text.now ≤ 131072 }
+    requires { length text.now ≤ SOURCE_LIMIT }
 {
     match check_text(alloc, text) {
         Ok(checked) => told_types(alloc, &checked),
@@ -58,7 +59,7 @@ fn told_typed(alloc: Global, text: &[u8]) -> Result<String, AllocError>
 
 // What the kind tells of the text's lines.
 fn told_of_lines(alloc: Global, kind: Kind, text: &[u8]) -> Result<String, AllocError>
-    requires { length text.now ≤ 131072 }
+    requires { length text.now ≤ SOURCE_LIMIT }
 {
     let found = match lines(alloc, text) {
         Ok(found) => found,

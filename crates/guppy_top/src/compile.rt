@@ -13,13 +13,10 @@ ghost use Rattle.guppy_top.specs.Made.{Makes, RefusesInput};
 use crate::mode_error::ModeError;
 use crate::refusal::{Refusal, SourceFault};
 use crate::status::Status;
-use gp_base::LineNo;
+use gp_base::{LineNo, SOURCE_LIMIT};
 use gp_lower::{ThinLine, ThinLines, lower_thin, thin};
 use hg_json::write;
 use std::alloc::Global;
-
-/// The most bytes that a source text has.
-pub const SOURCE_LIMIT: usize = 131_072;
 
 // The line of the function in a thin text, and the first line after `q = qubit()`.
 const FUNCTION_LINE: u32 = 5;

@@ -13,7 +13,7 @@ ghost use Rattle.guppy_top.specs.WordsFile.{Means, FileHolds, FileMissing, Answe
 ghost use Rattle.hg_json.specs.GraphText.{json};
 ghost use Rattle.guppy_top.specs.Words.{meaning_of};
 
-use crate::compile::{SOURCE_LIMIT, compile_text};
+use crate::compile::compile_text;
 use crate::input::{InputError, read_input};
 use crate::mode_error::ModeError;
 use crate::output::{refuse, send};
@@ -21,7 +21,7 @@ use crate::refusal::Refusal;
 use crate::run::graph_to_run;
 use crate::status::Status;
 use crate::words::{Mode, request_of};
-use gp_base::{Files, Names, Sink};
+use gp_base::{Files, Names, SOURCE_LIMIT, Sink};
 use hg_json::MAX_TEXT_BYTES;
 use hg_run::{RunFault, run_thin};
 use std::alloc::Global;

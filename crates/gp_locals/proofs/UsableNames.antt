@@ -1,13 +1,13 @@
 -- What lists of usable names say of their environments.
-use Rattle.std.proofs.Common.{◌≡◌, ◌≢◌, ℕ, zero, suc, ◌+◌, ◌-◌, ◌<◌, ◌≤◌, Bool, true, false, ◌&&◌, cond, List, [], ◌∷◌, ◌++◌, length, take, drop, map, filter, get_or, refl, sym, ap, ◌∙◌, subst, Option, Some, None, Result, Ok, Err, not, min, ◌^◌, ◌⊎◌, arith, add-one, append-nil, append_assoc, inl, inr}
-use Rattle.std.proofs.lemmas.Bool.{false≢true, cases_lt, lt-leb, le-leb, lt-ltb, le-ltb, ltb-true, ltb-false, eq-eqb, ne_eqb, eqb-true}
+use Rattle.std.proofs.Common.{◌≡◌, ◌≢◌, ℕ, zero, suc, ◌+◌, ◌-◌, ◌<◌, ◌≤◌, Bool, true, false, ◌&&◌, cond, List, [], ◌∷◌, ◌++◌, length, drop, map, filter, get_or, refl, sym, ap, ◌∙◌, subst, Option, Some, None, Result, Ok, Err, not, min, ◌^◌, arith, append-nil, append_assoc, inl, inr}
+use Rattle.std.proofs.lemmas.Bool.{false≢true, cases_lt, lt-leb, le-leb, lt-ltb, le-ltb, eq-eqb, ne_eqb}
 use Rattle.std.specs.Prelude.{slice_set, slice_get, ltb, leb, eqb, OnOk, OnErr}
 use Rattle.std.proofs.lemmas.List.{map-set}
 use Rattle.std.specs.List.{list_all, insert}
 use Rattle.gp_types.specs.Types.{Ty}
 use Rattle.gp_types.specs.Same.{same_type}
 use Rattle.gp_types.specs.Size.{size}
-use Rattle.gp_locals.specs.Environment.{Names, Environment, NameType, nothing_usable, common, join, is_kept, keeps, total_size, with_usable, usable}
+use Rattle.gp_locals.specs.Environment.{Names, Environment, NameType, nothing_usable, common, join, is_kept, keeps, total_size, usable}
 use Rattle.gp_locals.specs.Usable.{UsableName, usable_from, spread, IsListed, type_among, count_below, stands_at, put_among, is_kept_among, sizes, with_name_at, by_names}
 
 plus_zero : (k : ℕ) → k + 0 ≡ k

@@ -1,8 +1,6 @@
 -- Typed statements in memory, in a row.
-use Rattle.std.proofs.Common.{rules, ◌≡◌, List, [], ◌∷◌, ◌++◌, map, refl, sym, ap, ◌∙◌}
-use Rattle.gp_locals.specs.declared.name_type.NameType as name_type
+use Rattle.std.proofs.Common.{rules, ◌≡◌, List, [], ◌∷◌, ◌++◌, map, ap}
 use Rattle.gp_typing.specs.declared.typed.TypedStmt as q
-use Rattle.gp_typing.specs.declared.typed.TypedStmtKind as kinds
 use Rattle.gp_typing.specs.Pieces.{append_statements}
 use Rattle.gp_typing.specs.Typed.{TypedStatements, behind, no_statements, with_statement}
 use Rattle.gp_locals.specs.View.{name_view}

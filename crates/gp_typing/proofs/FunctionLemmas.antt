@@ -1,5 +1,5 @@
 -- Functions in pieces.
-use Rattle.std.proofs.Common.{◌≡◌, ◌∙◌, ap, sym, ℕ, List, [], ◌∷◌, map, Bool, true, false, ◌&&◌, not, Option, Some, None, Ok, Err, refl, is_some}
+use Rattle.std.proofs.Common.{◌≡◌, ◌∙◌, ap, sym, ℕ, List, Bool, true, false, ◌&&◌, not, Option, Some, None, Ok, Err, refl, is_some}
 use Rattle.gp_tree.specs.Program.{FunctionDefinition}
 use Rattle.gp_types.specs.Signature.{Signature}
 use Rattle.gp_typing.specs.declared.fault.TypeFault.{TypeFault}

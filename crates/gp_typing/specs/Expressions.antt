@@ -12,7 +12,7 @@ use Rattle.gp_types.specs.Types.{Ty, Tys, Fields}
 use Rattle.gp_types.specs.Same.{same_type, same_types}
 use Rattle.gp_types.specs.Size.{size}
 use Rattle.gp_types.specs.declared.limit.TheConstants.{TYPE_SIZE_LIMIT}
-use Rattle.gp_types.specs.Signature.{Signature, Parameter}
+use Rattle.gp_types.specs.Signature.{Parameter}
 use Rattle.gp_types.specs.Builtins.{parameters_of, answer_of}
 use Rattle.gp_types.specs.declared.builtins.BuiltinParameter.{BuiltinParameter}
 use Rattle.gp_types.specs.declared.builtins.BuiltinType.{BuiltinType}

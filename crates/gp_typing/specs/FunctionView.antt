@@ -1,5 +1,5 @@
 -- A function's body in one piece, and typed programs in memory.
-use Rattle.std.specs.Prelude.{◌&&◌, not, List, map, Option, Some, is_some, Ok}
+use Rattle.std.specs.Prelude.{◌&&◌, not, Some, is_some, Ok}
 use Rattle.gp_base.specs.declared.name.LineNo.{LineNo}
 use Rattle.gp_tree.specs.Statement.{Statements}
 use Rattle.gp_typing.specs.declared.fault.TypeFault.TheVariants.{TooManyPlaces, MissingReturn}

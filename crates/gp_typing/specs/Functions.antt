@@ -1,5 +1,5 @@
 -- The types of functions, and of a program.
-use Rattle.std.specs.Prelude.{ℕ, Bool, true, false, ◌&&◌, ◌||◌, not, List, [], ◌∷◌, map, Some, None, is_some, Ok, bytes_eq}
+use Rattle.std.specs.Prelude.{ℕ, Bool, false, ◌&&◌, ◌||◌, not, List, [], ◌∷◌, Some, is_some, Ok, bytes_eq}
 use Rattle.gp_tree.specs.Program.{FunctionDefinition, ProgramItem, function_item}
 use Rattle.gp_types.specs.Signature.{Signature, Parameter, is_borrowed_mode, parameter_names}
 use Rattle.gp_typing.specs.declared.fault.TypeFault.TheVariants.{UnknownName, TooManyPlaces, MissingReturn}

@@ -14,7 +14,7 @@ use Rattle.gp_typing.specs.Expressions.{Value, is_bool, is_int}
 use Rattle.gp_scope.specs.Known.{Known}
 use Rattle.gp_typing.specs.Statements.{Frame, StatementTyping, BlockTyping, after, after_while, block_of, block_typing, comes_back, goes_on, line_of, one_of, statement_typing, typed_as}
 use Rattle.gp_typing.specs.Typed as typed
-use Rattle.gp_typing.specs.Typed.{TypedExpression, TypedStatement, TypedStatements, no_statements, with_statement, behind}
+use Rattle.gp_typing.specs.Typed.{TypedExpression, TypedStatements, no_statements, with_statement, behind}
 
 -- a test: a truth value
 abbrev pub tested : LineNo → Checked Value → Checked TypedExpression

@@ -17,7 +17,7 @@ use Rattle.gp_locals.specs.Environment.{Names, Environment, put, join_reached, k
 use Rattle.gp_scope.specs.Known.{Known}
 use Rattle.gp_typing.specs.Expressions.{valued, typing, place_type, is_int, is_bool}
 use Rattle.gp_typing.specs.Typed as typed
-use Rattle.gp_typing.specs.Typed.{TypedExpression, TypedStatement, TypedStatements, TypedStatementKind, TypedBlock, behind}
+use Rattle.gp_typing.specs.Typed.{TypedStatements, TypedStatementKind, TypedBlock, behind}
 
 -- what the whole function fixes: its names, the type of its result, and which names are borrowed parameters
 pub record Frame : Type 0 where

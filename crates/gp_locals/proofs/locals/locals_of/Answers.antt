@@ -1,7 +1,7 @@
-use Rattle.std.proofs.Common.{[], arith, map, ap, ◌≡◌}
+use Rattle.std.proofs.Common.{[], arith, map}
 use Rattle.std.proofs.lemmas.Grind.{common_steps}
 use Rattle.gp_tree.specs.Statement.{statements}
-use Rattle.gp_locals.specs.Locals.{locals, names_of_block}
+use Rattle.gp_locals.specs.Locals.{names_of_block}
 use Rattle.gp_locals.proofs.Names.{names_seen, parameter_name, with_names_append}
 use Rattle.gp_locals.proofs.locals.locals_of.Goals as goal
 

@@ -1,4 +1,4 @@
-use Rattle.std.proofs.Common.{rules, ap, sym, ◌≡◌, ◌∙◌, Ok, Err, Some}
+use Rattle.std.proofs.Common.{rules, ◌∙◌}
 use Rattle.gp_tree.specs.Program.{function_definition}
 use Rattle.gp_types.specs.Signature.{signature_view}
 use Rattle.gp_scope.specs.ScopeView.{known_in}

@@ -8,7 +8,7 @@ use Rattle.gp_types.specs.Types.{Ty}
 use Rattle.gp_types.specs.Same.{same_type}
 use Rattle.gp_types.specs.Size.{size}
 use Rattle.gp_locals.specs.Environment.{Names, Environment, NameType, nothing_usable, common, join, is_kept, keeps, total_size, usable}
-use Rattle.gp_locals.specs.Usable.{UsableName, usable_from, spread, IsListed, type_among, count_below, stands_at, put_among, is_kept_among, sizes, with_name_at, by_names}
+use Rattle.gp_locals.specs.code.Usable.{UsableName, usable_from, spread, IsListed, type_among, count_below, stands_at, put_among, is_kept_among, sizes, with_name_at, by_names}
 
 plus_zero : (k : ℕ) → k + 0 ≡ k
 plus_zero k = omega arith

@@ -7,7 +7,7 @@ use Rattle.gp_locals.specs.declared.environment.Found.TheVariants.{Foreign, Unus
 use Rattle.gp_locals.specs.declared.name_type.NameType as declared
 use Rattle.gp_locals.specs.declared.usable.UsableName as declared_usable
 use Rattle.gp_locals.specs.Environment.{NameType}
-use Rattle.gp_locals.specs.Usable.{UsableName}
+use Rattle.gp_locals.specs.code.Usable.{UsableName}
 
 abbrev pub found_view : Found → Option (Option Ty)
 found_view Foreign = None

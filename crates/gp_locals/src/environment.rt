@@ -28,9 +28,9 @@ pub struct Environment {
 impl Model for Environment {
     ghost use Rattle.std.specs.Prelude.{map};
     ghost use Rattle.gp_locals.specs.Environment as spec;
-    ghost use Rattle.gp_locals.specs.Usable.{spread, IsListed};
+    ghost use Rattle.gp_locals.specs.code.Usable.{spread, IsListed};
     ghost use Rattle.gp_locals.specs.View.{usable_view};
-    ghost use Rattle.gp_locals.specs.TypeCode.{coded_types};
+    ghost use Rattle.gp_locals.specs.code.TypeCode.{coded_types};
 
     ghost Value = { spec.Environment };
 

@@ -4,7 +4,7 @@ ghost use Rattle.std.specs.Prelude.{◌≡◌, ◌≤◌, [], ◌++◌, ◌^◌,
 ghost use Rattle.std.specs.Option.{option_copied};
 ghost use Rattle.std.specs.List.{list_all};
 ghost use Rattle.gp_types.specs.View.{ty_view};
-ghost use Rattle.gp_locals.specs.Usable as spec;
+ghost use Rattle.gp_locals.specs.code.Usable as spec;
 ghost use Rattle.gp_locals.specs.View.{name_view, usable_view};
 
 use crate::name_type::{NameType, NameTypes};

@@ -5,7 +5,7 @@ use Rattle.gp_lower.specs.declared.thin_text.ThinLine.{ThinLine}
 use Rattle.gp_lower.specs.declared.thin_text.ThinLine.TheVariants as line
 use Rattle.hg_graph.specs.Graph.{Node, Link, Ports, Order, Graph}
 use Rattle.hg_graph.specs.Thin.{ThinGate, H, X, gate_op, in_main, chain, thin_graph}
-use Rattle.gp_lower.specs.Growing.{grown}
+use Rattle.gp_lower.specs.code.Growing.{grown}
 use Rattle.gp_lower.specs.Thin.{line_op, complete_lines, AreComplete}
 
 -- the two links from one node to another

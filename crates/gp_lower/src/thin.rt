@@ -1,7 +1,7 @@
 //! Lowering of thin texts: one straight function on one qubit.
 
 ghost use Rattle.std.specs.Prelude.{◌≡◌, ◌<◌, ℕ, List, [], ◌∷◌, ◌++◌, length, IfOk, OnOk};
-ghost use Rattle.gp_lower.specs.Growing.{grown};
+ghost use Rattle.gp_lower.specs.code.Growing.{grown};
 ghost use Rattle.gp_lower.specs.Thin.{AreComplete, RunsGates, complete_lines, line_op};
 ghost use Rattle.hg_graph.specs.Graph.{Ports, Order};
 ghost use Rattle.hg_graph.specs.Rules.{InputsLinkedOnce, LinearOutputsLinkedOnce};

@@ -17,16 +17,16 @@ use Rattle.gp_types.specs.Types as types
 use Rattle.gp_typing.specs.declared.context.Context.{Context}
 use Rattle.gp_typing.specs.declared.fault.TypeFault.{TypeFault}
 use Rattle.gp_typing.specs.declared.fault.TypeFault.TheVariants.{Memory, Mismatch, UnknownName}
-use Rattle.gp_typing.specs.CallView.{call_in, callee_in, tag_of}
+use Rattle.gp_typing.specs.code.CallView.{call_in, callee_in, tag_of}
 use Rattle.gp_typing.specs.Checks.{Checked, ◌>>=◌, check, found, Answers}
 use Rattle.gp_locals.specs.Callee.{Callee, takes_tag}
 use Rattle.gp_locals.specs.Environment.{Names, Environment}
 use Rattle.gp_locals.specs.Tag.{is_tag}
 use Rattle.gp_typing.specs.Expressions.{Value, Values, Arguments, valued, before, untagged, has_type, tupled, called, tags, typing, values_of, arguments_of}
-use Rattle.gp_typing.specs.ExpressionView.{typed_in, valued_in, values_in}
+use Rattle.gp_typing.specs.code.ExpressionView.{typed_in, valued_in, values_in}
 use Rattle.gp_scope.specs.Known.{Known}
 use Rattle.gp_scope.specs.ScopeView.{known_in}
-use Rattle.gp_typing.specs.Operations.{place_of, minus_of, negation_of, binary_of, both_of, either_of, choice_of}
+use Rattle.gp_typing.specs.code.Operations.{place_of, minus_of, negation_of, binary_of, both_of, either_of, choice_of}
 use Rattle.gp_typing.specs.Typed as typed
 use Rattle.gp_typing.proofs.Rows.{values_before, values_before-push, values_before-end, drop-at, drop-all}
 use Rattle.gp_typing.specs.View.{expressions_of}

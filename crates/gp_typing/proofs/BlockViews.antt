@@ -1,7 +1,7 @@
 -- Typed statements in memory, in a row.
 use Rattle.std.proofs.Common.{rules, ◌≡◌, List, [], ◌∷◌, ◌++◌, map, ap}
 use Rattle.gp_typing.specs.declared.typed.TypedStmt as q
-use Rattle.gp_typing.specs.Pieces.{append_statements}
+use Rattle.gp_typing.specs.code.Pieces.{append_statements}
 use Rattle.gp_typing.specs.Typed.{TypedStatements, behind, no_statements, with_statement}
 use Rattle.gp_locals.specs.View.{name_view}
 use Rattle.gp_typing.specs.View.{statement_kind_view, statement_view, statements_view}

@@ -13,7 +13,7 @@ use Rattle.gp_typing.specs.Checks.{Checked, ◌>>=◌, check, found}
 use Rattle.gp_locals.specs.Environment.{Environment, is_within, put}
 use Rattle.gp_typing.specs.Expressions.{Value, is_bool, is_int, typing, valued}
 use Rattle.gp_scope.specs.Known.{Known}
-use Rattle.gp_typing.specs.Pieces.{tested, counted, ended_annotated, append_statements, joined_block, with_last, next_of, continued}
+use Rattle.gp_typing.specs.code.Pieces.{tested, counted, ended_annotated, append_statements, joined_block, with_last, next_of, continued}
 use Rattle.gp_typing.specs.Statements.{Frame, StatementTyping, BlockTyping, block_typing, first_of_block, goes_on, line_of, statement_typing, typed_as}
 use Rattle.gp_typing.specs.Typed as typed
 use Rattle.gp_typing.specs.Typed.{TypedExpression, TypedStatement, TypedStatements, no_statements, with_statement}

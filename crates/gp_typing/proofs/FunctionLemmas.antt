@@ -6,7 +6,7 @@ use Rattle.gp_typing.specs.declared.fault.TypeFault.{TypeFault}
 use Rattle.gp_typing.specs.declared.fault.TypeFault.TheVariants.{UnknownName, TooManyPlaces, MissingReturn}
 use Rattle.gp_typing.specs.Checks.{Checked, ◌>>=◌, check, found}
 use Rattle.gp_locals.specs.Environment.{Names, Environment, nothing_usable, is_within}
-use Rattle.gp_typing.specs.FunctionView.{body_typing}
+use Rattle.gp_typing.specs.code.FunctionView.{body_typing}
 use Rattle.gp_typing.specs.Functions.{at_start, frame_of, function_typing, names_of, with_parameters, is_borrowed_among}
 use Rattle.gp_scope.specs.Known.{Known}
 use Rattle.gp_typing.specs.Statements.{Frame, BlockTyping, block_typing, block_of}

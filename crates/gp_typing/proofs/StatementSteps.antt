@@ -24,10 +24,10 @@ use Rattle.gp_typing.specs.declared.frame.Frame as declared_frame
 use Rattle.gp_typing.specs.Checks.{Checked, ◌>>=◌, found, Answers}
 use Rattle.gp_locals.specs.Environment.{Environment, NameType, put, usable}
 use Rattle.gp_typing.specs.Functions.{is_borrowed_among}
-use Rattle.gp_typing.specs.Pieces.{tested, counted, named, ended_annotated, ended_if, ended_while, ended_for, ended_next, continued}
-use Rattle.gp_typing.specs.Compound.{if_in, while_in, for_in, next_in}
+use Rattle.gp_typing.specs.code.Pieces.{tested, counted, named, ended_annotated, ended_if, ended_while, ended_for, ended_next, continued}
+use Rattle.gp_typing.specs.code.Compound.{if_in, while_in, for_in, next_in}
 use Rattle.gp_typing.specs.Statements.{StatementTyping, BlockTyping, line_of}
-use Rattle.gp_typing.specs.StatementView.{block_in, frame_view, known_for, statement_in, value_in}
+use Rattle.gp_typing.specs.code.StatementView.{block_in, frame_view, known_for, statement_in, value_in}
 use Rattle.gp_typing.specs.Typed.{TypedExpression}
 use Rattle.gp_typing.proofs.Blocks.{next-goes, nothing-goes, tested-goes, counted-goes, annotated-goes}
 

@@ -4,9 +4,9 @@ ghost use Rattle.std.specs.Prelude.{◌≡◌, IsTrue, length, map};
 ghost use Rattle.gp_types.specs.Types.{tys_of};
 ghost use Rattle.gp_types.specs.View.{ty_view};
 ghost use Rattle.gp_typing.specs.Checks.{Answers};
-ghost use Rattle.gp_typing.specs.Pieces.{named};
+ghost use Rattle.gp_typing.specs.code.Pieces.{named};
 ghost use Rattle.gp_typing.specs.Statements as spec;
-ghost use Rattle.gp_typing.specs.StatementView.{frame_view};
+ghost use Rattle.gp_typing.specs.code.StatementView.{frame_view};
 
 use crate::fault::TypeFault;
 use crate::frame::{Frame, is_borrowed};

@@ -7,7 +7,7 @@ ghost use Rattle.gp_types.specs.Types.{tys_of, fields_of};
 ghost use Rattle.gp_types.specs.View.{ty_view, field_view};
 ghost use Rattle.gp_typing.specs.declared.fault.TypeFault.TheVariants.{Mismatch, WrongCount};
 ghost use Rattle.gp_locals.specs.CalleeView.{callee_view};
-ghost use Rattle.gp_typing.specs.CallView.{arguments_view, count_with, do_fit, trees_with, tag_of};
+ghost use Rattle.gp_typing.specs.code.CallView.{arguments_view, count_with, do_fit, trees_with, tag_of};
 ghost use Rattle.gp_typing.specs.Checks.{Answers, check};
 ghost use Rattle.gp_typing.specs.Expressions as spec;
 ghost use Rattle.gp_typing.specs.View.{expression_view, expressions_view};

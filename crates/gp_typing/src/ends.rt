@@ -4,7 +4,7 @@ ghost use Rattle.std.specs.Prelude.{◌≡◌, IfOk, None};
 ghost use Rattle.gp_tree.specs.Expression.{expression};
 ghost use Rattle.gp_locals.specs.Environment as env;
 ghost use Rattle.gp_typing.specs.Statements as spec;
-ghost use Rattle.gp_typing.specs.StatementView.{ends_view, block_view};
+ghost use Rattle.gp_typing.specs.code.StatementView.{ends_view, block_view};
 ghost use Rattle.gp_typing.specs.View as view;
 
 use crate::typed::{TypedBlock, TypedStmtKind, TypedStmts};

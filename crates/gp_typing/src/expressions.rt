@@ -2,10 +2,10 @@
 
 ghost use Rattle.std.specs.Prelude.{drop};
 ghost use Rattle.gp_tree.specs.Expression.{expression, expressions};
-ghost use Rattle.gp_typing.specs.CallView.{call_in};
+ghost use Rattle.gp_typing.specs.code.CallView.{call_in};
 ghost use Rattle.gp_typing.specs.Checks.{Answers};
-ghost use Rattle.gp_typing.specs.ExpressionView.{value_view, values_view, typed_in, valued_in, values_in};
-ghost use Rattle.gp_typing.specs.Operations.{place_of};
+ghost use Rattle.gp_typing.specs.code.ExpressionView.{value_view, values_view, typed_in, valued_in, values_in};
+ghost use Rattle.gp_typing.specs.code.Operations.{place_of};
 ghost use Rattle.gp_typing.specs.View.{expression_view};
 
 use crate::calls::{call, count_tags, find_tag};

@@ -4,9 +4,9 @@ ghost use Rattle.std.specs.Prelude.{◌≡◌, ◌&&◌, bytes_eq, map};
 ghost use Rattle.gp_tree.specs.Expression.{expression};
 ghost use Rattle.gp_types.specs.Signature.{is_borrowed_mode, parameter_view};
 ghost use Rattle.gp_typing.specs.Checks.{Answers};
-ghost use Rattle.gp_typing.specs.ExpressionView.{value_view};
+ghost use Rattle.gp_typing.specs.code.ExpressionView.{value_view};
 ghost use Rattle.gp_typing.specs.Functions.{is_borrowed_among};
-ghost use Rattle.gp_typing.specs.StatementView.{expression_in, value_in};
+ghost use Rattle.gp_typing.specs.code.StatementView.{expression_in, value_in};
 ghost use Rattle.gp_typing.specs.View.{expression_view};
 
 use crate::context::Context;

@@ -7,9 +7,9 @@ ghost use Rattle.gp_types.specs.Signature.{parameter_view, signature_view};
 ghost use Rattle.gp_locals.specs.Environment.{nothing_usable};
 ghost use Rattle.gp_typing.specs.Checks.{Answers};
 ghost use Rattle.gp_typing.specs.Functions as spec;
-ghost use Rattle.gp_typing.specs.FunctionView.{body_typing};
+ghost use Rattle.gp_typing.specs.code.FunctionView.{body_typing};
 ghost use Rattle.gp_scope.specs.ScopeView.{known_in};
-ghost use Rattle.gp_typing.specs.StatementView.{frame_view, known_for};
+ghost use Rattle.gp_typing.specs.code.StatementView.{frame_view, known_for};
 ghost use Rattle.gp_typing.specs.View.{block_view, function_view};
 
 use crate::ends::{BlockTyping, into_block};

@@ -5,8 +5,8 @@ ghost use Rattle.gp_types.specs.Types as types;
 ghost use Rattle.gp_types.specs.View.{ty_view};
 ghost use Rattle.gp_typing.specs.Checks.{Answers};
 ghost use Rattle.gp_typing.specs.Expressions as spec;
-ghost use Rattle.gp_typing.specs.ExpressionView.{value_view, values_view};
-ghost use Rattle.gp_typing.specs.Operations.{minus_of, negation_of, binary_of, both_of, either_of, choice_of};
+ghost use Rattle.gp_typing.specs.code.ExpressionView.{value_view, values_view};
+ghost use Rattle.gp_typing.specs.code.Operations.{minus_of, negation_of, binary_of, both_of, either_of, choice_of};
 ghost use Rattle.gp_typing.specs.Typed as typed;
 ghost use Rattle.gp_typing.specs.View.{expression_view, kind_view};
 

@@ -4,7 +4,7 @@ ghost use Rattle.std.specs.Prelude.{◌≡◌, ◌++◌, ◌∷◌, [], OnOk, ma
 ghost use Rattle.gp_types.specs.View.{ty_view};
 ghost use Rattle.gp_typing.specs.Checks.{Answers};
 ghost use Rattle.gp_typing.specs.Expressions.{value_of};
-ghost use Rattle.gp_typing.specs.ExpressionView.{value_view};
+ghost use Rattle.gp_typing.specs.code.ExpressionView.{value_view};
 ghost use Rattle.gp_typing.specs.View.{expression_view};
 
 use crate::fault::TypeFault;

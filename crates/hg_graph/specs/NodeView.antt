@@ -4,7 +4,7 @@ use Rattle.hg_ops.specs.OpView.{op_view}
 use Rattle.hg_graph.specs.declared.graph.Node as declared
 use Rattle.hg_graph.specs.declared.graph.Graph.TheInside.{Inside}
 use Rattle.hg_graph.specs.Graph.{Node, Graph}
-use Rattle.hg_graph.specs.GraphIndex.{IsIndexed}
+use Rattle.hg_graph.specs.code.GraphIndex.{IsIndexed}
 use Rattle.hg_graph.specs.View.{link_view}
 
 abbrev pub node_view : declared.Node → Node

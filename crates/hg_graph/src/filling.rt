@@ -2,7 +2,7 @@
 
 ghost use Rattle.std.specs.Prelude.{◌≡◌, ◌<◌, [], length, map, All, IfOk, OnOk};
 ghost use Rattle.hg_ops.specs.OpView.{op_view};
-ghost use Rattle.hg_graph.specs.GraphIndex.{IsIndexed, IsFilled};
+ghost use Rattle.hg_graph.specs.code.GraphIndex.{IsIndexed, IsFilled};
 ghost use Rattle.hg_graph.specs.NodeIndex.{fresh_index};
 ghost use Rattle.hg_graph.specs.NodeView.{node_view};
 

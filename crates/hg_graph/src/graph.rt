@@ -41,7 +41,7 @@ impl Model for Graph {
     ghost Value = { spec.Graph };
 
     ghost use Rattle.std.specs.Coded.{codes};
-    ghost use Rattle.hg_ops.specs.TypeCode.{coded_type};
+    ghost use Rattle.hg_ops.specs.code.TypeCode.{coded_type};
 
     ghost coded = { Prim.hlevel (codes, coded_type) };
 

@@ -1,7 +1,7 @@
 //! What a graph keeps of its nodes beside its lists.
 
 ghost use Rattle.std.specs.Prelude.{◌≡◌, ◌<◌, ◌≤◌, vec_capacity, ℕ, List, ◌∷◌, ◌++◌, [], length, OnOk, OnErr};
-ghost use Rattle.hg_graph.specs.GraphIndex.{updated, with_ports, with_order};
+ghost use Rattle.hg_graph.specs.code.GraphIndex.{updated, with_ports, with_order};
 ghost use Rattle.hg_graph.specs.NodeIndex.{NodeIndex as SpecIndex, with_child, with_input, with_output, with_before, with_after};
 ghost use Rattle.hg_graph.specs.View.{port_view, link_view};
 

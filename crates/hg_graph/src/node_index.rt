@@ -23,7 +23,7 @@ impl Model for NodeIndex {
 
     ghost Value = { spec.NodeIndex };
 
-    ghost use Rattle.hg_graph.specs.NodeIndexView.{node_index_view};
+    ghost use Rattle.hg_graph.specs.code.NodeIndexView.{node_index_view};
 
     ghost view = { node_index_view };
 }

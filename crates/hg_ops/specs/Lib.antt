@@ -3,9 +3,6 @@ pub mod GraphType
 pub mod Names
 pub mod Op
 pub mod OpView
-pub mod PlainType
 pub mod SameType
-pub mod TypeCode
-pub mod TypeFalls
-pub mod TypeSize
 pub mod TypeView
+pub mod code

@@ -32,7 +32,7 @@ pub struct Rows {
 }
 
 impl Model for Row {
-    ghost use Rattle.hg_ops.specs.TypeCode.{Types, coded_types};
+    ghost use Rattle.hg_ops.specs.code.TypeCode.{Types, coded_types};
 
     ghost Value = { Types };
 
@@ -42,11 +42,11 @@ impl Model for Row {
 
     ghost view = { row_view };
 
-    ghost use Rattle.hg_ops.specs.TypeSize.{row_size};
+    ghost use Rattle.hg_ops.specs.code.TypeSize.{row_size};
 
     ghost size = { row_size };
 
-    ghost use Rattle.hg_ops.specs.TypeFalls.{most_le-row_size};
+    ghost use Rattle.hg_ops.specs.code.TypeFalls.{most_le-row_size};
 
     ghost size_decreases = { λ a h. most_le-row_size a.types.items };
 }
@@ -54,7 +54,7 @@ impl Model for Row {
 impl Model for Rows {
     ghost use Rattle.std.specs.Prelude.{List};
     ghost use Rattle.std.specs.Coded.{coded_list};
-    ghost use Rattle.hg_ops.specs.TypeCode.{Types, coded_types};
+    ghost use Rattle.hg_ops.specs.code.TypeCode.{Types, coded_types};
 
     ghost Value = { List Types };
 
@@ -64,11 +64,11 @@ impl Model for Rows {
 
     ghost view = { rows_view };
 
-    ghost use Rattle.hg_ops.specs.TypeSize.{rows_size};
+    ghost use Rattle.hg_ops.specs.code.TypeSize.{rows_size};
 
     ghost size = { rows_size };
 
-    ghost use Rattle.hg_ops.specs.TypeFalls.{most_le-rows_size};
+    ghost use Rattle.hg_ops.specs.code.TypeFalls.{most_le-rows_size};
 
     ghost size_decreases = { λ a h. most_le-rows_size a.rows.items };
 }

@@ -4,7 +4,7 @@ ghost use Rattle.std.specs.Prelude.{◌≡◌, [], ◌∷◌, ◌++◌, map, sli
 ghost use Rattle.hg_ops.specs.GraphType.{sum_type, tuple_type, function_type};
 ghost use Rattle.hg_ops.specs.Op as spec;
 ghost use Rattle.hg_ops.specs.OpView.{op_view};
-ghost use Rattle.hg_ops.specs.PlainType.{plain_type};
+ghost use Rattle.hg_ops.specs.code.PlainType.{plain_type};
 ghost use Rattle.hg_ops.specs.TypeView.{type_view};
 
 use crate::gate::Gate;

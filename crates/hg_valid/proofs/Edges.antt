@@ -10,7 +10,7 @@ use Rattle.hg_graph.specs.Valid.{Edge, along_value, along_order, Path, edge, joi
 use Rattle.hg_laws.proofs.Children.{get_in}
 use Rattle.walks.specs.Walks.{row, Leads, Walk, once, first, IsClosed}
 use Rattle.walks.proofs.WalkLemmas.{walk_on}
-use Rattle.hg_valid.specs.Successors.{Joins, AreSuccessors, HasEdges}
+use Rattle.hg_valid.specs.code.Successors.{Joins, AreSuccessors, HasEdges}
 
 in_left : {A : Type 0} (x : A) (xs ys : List A) → In x xs → In x (xs ++ ys)
 in_left x [] ys i = absurd i

@@ -4,7 +4,7 @@ use Rattle.hg_ops.specs.GraphType.{GraphType}
 use Rattle.hg_ops.specs.Op.{Op, Types, FuncDefn, Const, DataflowBlock, ExitBlock, Call, LoadConstant, LoadFunction, PortKind, ValuePort, ControlPort, ins_of, outs_of, other_inputs, other_outputs, input_ports}
 use Rattle.hg_graph.specs.Graph.{Graph, Port, op_at}
 use Rattle.hg_graph.specs.Valid.{JoinsPorts, is_local}
-use Rattle.hg_valid.specs.OtherKinds.{SameKind}
+use Rattle.hg_valid.specs.code.OtherKinds.{SameKind}
 
 -- ---- value ports and those behind them
 pub value_at : (ts : Types) (rest : List PortKind) (p : ℕ) (t : GraphType) → slice_get ts p ≡ Some t → slice_get (map ValuePort ts ++ rest) p ≡ Some (ValuePort t)

@@ -20,10 +20,10 @@ use Rattle.walks.specs.Counts.{is_marked, AreCounted}
 use Rattle.walks.specs.Cycles.{HasCycle}
 use Rattle.walks.proofs.CountLemmas.{own_mark, falls_from, next_marked, marked_one}
 use Rattle.walks.proofs.WalkLemmas.{place_in, in_place, walk_on}
-use Rattle.hg_valid.specs.Successors.{AreSuccessors}
-use Rattle.hg_valid.specs.Effects.{AreEffects}
+use Rattle.hg_valid.specs.code.Successors.{AreSuccessors}
+use Rattle.hg_valid.specs.code.Effects.{AreEffects}
 use Rattle.hg_valid.specs.SameRuns.{RunsAreSame}
-use Rattle.hg_valid.specs.Regions.{AreApart, HaveSame, HasSame, ApartBelow, IsSeen, child_at}
+use Rattle.hg_valid.specs.code.Regions.{AreApart, HaveSame, HasSame, ApartBelow, IsSeen, child_at}
 use Rattle.hg_valid.proofs.Edges.{path_of, walk_of, closed_successors}
 
 -- ---- the children of a region

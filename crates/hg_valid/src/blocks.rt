@@ -6,9 +6,9 @@ ghost use Rattle.hg_graph.specs.Valid as spec;
 ghost use Rattle.hg_graph.specs.View.{port_view};
 ghost use Rattle.hg_ops.specs.Op as kind;
 ghost use Rattle.hg_ops.specs.OpView.{op_view};
-ghost use Rattle.hg_valid.specs.Broken.{AllKeep};
-ghost use Rattle.hg_valid.specs.Parts.{BlockFits, HasStaticInput, IsOnlySource, IsFunctionOf};
-ghost use Rattle.hg_valid.specs.Tables.{AreTables};
+ghost use Rattle.hg_valid.specs.code.Broken.{AllKeep};
+ghost use Rattle.hg_valid.specs.code.Parts.{BlockFits, HasStaticInput, IsOnlySource, IsFunctionOf};
+ghost use Rattle.hg_valid.specs.code.Tables.{AreTables};
 
 use crate::ancestors::is_ancestor;
 use crate::port_links::{only_source, only_target};

@@ -4,9 +4,9 @@ ghost use Rattle.std.specs.Prelude.{◌≡◌, ◌≤◌, IfOk};
 ghost use Rattle.std.specs.Option.{option_map};
 ghost use Rattle.hg_graph.specs.View.{number_of};
 ghost use Rattle.hg_valid.specs.Answers.{FirstBroken};
-ghost use Rattle.hg_valid.specs.Broken.{EarlierHold, FirstToBreak};
-ghost use Rattle.hg_valid.specs.RuleView.{rule_view};
-ghost use Rattle.hg_valid.specs.Tables.{AreTables};
+ghost use Rattle.hg_valid.specs.code.Broken.{EarlierHold, FirstToBreak};
+ghost use Rattle.hg_valid.specs.code.RuleView.{rule_view};
+ghost use Rattle.hg_valid.specs.code.Tables.{AreTables};
 
 use crate::cycle::first_on_cycle;
 use crate::links::first_target;

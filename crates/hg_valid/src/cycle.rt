@@ -4,7 +4,7 @@ ghost use Rattle.std.specs.Prelude.{IfOk};
 ghost use Rattle.std.specs.Option.{option_map};
 ghost use Rattle.hg_graph.specs.Valid.{NoCycle};
 ghost use Rattle.hg_graph.specs.View.{number_of};
-ghost use Rattle.hg_valid.specs.Broken.{EarlierHold, FirstToBreak};
+ghost use Rattle.hg_valid.specs.code.Broken.{EarlierHold, FirstToBreak};
 
 use crate::successors::successors_of;
 use hg_graph::{Graph, NodeId};

@@ -5,7 +5,7 @@ ghost use Rattle.std.specs.Option.{option_map, option_copied};
 ghost use Rattle.hg_graph.specs.Valid.{Names, name_of};
 ghost use Rattle.hg_graph.specs.View.{number_of};
 ghost use Rattle.hg_ops.specs.OpView.{op_view};
-ghost use Rattle.hg_valid.specs.Broken.{FirstToBreak};
+ghost use Rattle.hg_valid.specs.code.Broken.{FirstToBreak};
 
 use hg_graph::{Graph, NodeId};
 use hg_ops::OpKind;

@@ -5,7 +5,7 @@ ghost use Rattle.std.specs.Bool.{OnTrue};
 ghost use Rattle.hg_ops.specs.Op as op;
 ghost use Rattle.hg_graph.specs.Graph.{op_at, children};
 ghost use Rattle.hg_graph.specs.Ordered.{IsOrdered};
-ghost use Rattle.hg_valid.specs.Regions.{AreApart, HaveSame, HasSame, ApartBelow, child_at};
+ghost use Rattle.hg_valid.specs.code.Regions.{AreApart, HaveSame, HasSame, ApartBelow, child_at};
 ghost use Rattle.hg_valid.specs.SameRuns.{RunsAreSame};
 
 use crate::effects::effects_of;

@@ -2,7 +2,7 @@
 
 ghost use Rattle.std.specs.Prelude.{◌≡◌, ◌≤◌};
 ghost use Rattle.hg_graph.specs.Valid.{number_of};
-ghost use Rattle.hg_valid.specs.RuleView.{rule_view};
+ghost use Rattle.hg_valid.specs.code.RuleView.{rule_view};
 
 // A rule, by what is looked at to test it.
 #[derive(Clone, Copy, Debug, PartialEq, Eq)]

@@ -1,7 +1,7 @@
 //! The types at the value ports of all nodes.
 
 ghost use Rattle.std.specs.Prelude.{IfOk, length};
-ghost use Rattle.hg_valid.specs.Signatures.{AreSignatures};
+ghost use Rattle.hg_valid.specs.code.Signatures.{AreSignatures};
 
 use hg_graph::{Graph, NodeId};
 use hg_ops::{Row, signature};

@@ -5,7 +5,7 @@ ghost use Rattle.hg_ops.specs.Op.{ins_of};
 ghost use Rattle.hg_ops.specs.OpView.{op_view};
 ghost use Rattle.hg_graph.specs.Graph.{IsGraph};
 ghost use Rattle.walks.specs.Walks.{row};
-ghost use Rattle.hg_valid.specs.Successors.{AreSuccessors, HasEdges};
+ghost use Rattle.hg_valid.specs.code.Successors.{AreSuccessors, HasEdges};
 
 use gp_base::Sequence;
 use hg_graph::{Graph, Link, NodeId};

@@ -3,7 +3,7 @@
 ghost use Rattle.std.specs.Prelude.{◌≡◌, ◌<◌, IfOk, length};
 ghost use Rattle.hg_graph.specs.Graph.{op_at};
 ghost use Rattle.hg_ops.specs.Op.{ins_of, outs_of};
-ghost use Rattle.hg_valid.specs.Tables.{AreTables};
+ghost use Rattle.hg_valid.specs.code.Tables.{AreTables};
 
 use crate::ancestors::{Jump, jumps_of};
 use crate::signatures::{Signature, signatures_of};

@@ -1,12 +1,12 @@
 use Rattle.std.proofs.Common.{◌∙◌, ap, subst, sym, map, drop, Ok}
 use Rattle.gp_tree.specs.Expression.{expression, expressions}
 use Rattle.gp_typing.specs.Expressions as spec
-use Rattle.gp_typing.specs.ExpressionView.{value_view, values_view, typed_in, valued_in, values_in}
+use Rattle.gp_typing.specs.code.ExpressionView.{value_view, values_view, typed_in, valued_in, values_in}
 use Rattle.gp_types.specs.View.{ty_view}
-use Rattle.gp_typing.specs.CallView.{call_in, callee_in, arguments_view, tag_of}
+use Rattle.gp_typing.specs.code.CallView.{call_in, callee_in, arguments_view, tag_of}
 use Rattle.gp_locals.specs.CalleeView.{callee_view}
 use Rattle.gp_typing.specs.Checks.{Answers}
-use Rattle.gp_typing.specs.Operations.{place_of, minus_of, negation_of, binary_of, both_of, either_of, choice_of}
+use Rattle.gp_typing.specs.code.Operations.{place_of, minus_of, negation_of, binary_of, both_of, either_of, choice_of}
 use Rattle.gp_typing.specs.View.{expression_view}
 use Rattle.gp_typing.proofs.Binds.{bind-err, bind-ok, exits, ends, one-err, one-ok, two-err, two-err-2, two-ok, three-err, three-err-2, three-err-3, three-ok, number-typed, boolean-typed, text-typed, place-typed, minus-typed, negation-typed, binary-typed, both-typed, either-typed, choice-typed, tuple-typed, call-typed, call-no-values, call-called, values-step, values-err, values-end}
 use Rattle.gp_typing.proofs.expressions.+typing.Goals as goal

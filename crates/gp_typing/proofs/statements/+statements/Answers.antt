@@ -6,9 +6,9 @@ use Rattle.gp_tree.specs.TypeExpression.{type_expression}
 use Rattle.gp_types.specs.Types as types
 use Rattle.gp_typing.specs.declared.fault.TypeFault.TheVariants.{Unreachable}
 use Rattle.gp_typing.specs.Checks.{◌>>=◌}
-use Rattle.gp_typing.specs.Compound.{if_in, while_in, for_in, next_in}
-use Rattle.gp_typing.specs.Pieces.{tested, counted, named, ended_annotated, ended_if, ended_while, ended_for, ended_next}
-use Rattle.gp_typing.specs.StatementView.{block_view, statement_view, frame_view, known_for, value_in, statement_in, block_in}
+use Rattle.gp_typing.specs.code.Compound.{if_in, while_in, for_in, next_in}
+use Rattle.gp_typing.specs.code.Pieces.{tested, counted, named, ended_annotated, ended_if, ended_while, ended_for, ended_next}
+use Rattle.gp_typing.specs.code.StatementView.{block_view, statement_view, frame_view, known_for, value_in, statement_in, block_in}
 use Rattle.gp_locals.specs.View.{name_view}
 use Rattle.gp_typing.specs.View.{expression_view}
 use Rattle.gp_typing.proofs.StatementSizes.{block_steps, statement_steps, item-smaller, if-smaller, while-smaller, for-smaller}

@@ -1,7 +1,7 @@
 use Rattle.std.proofs.Common.{◌≡◌, ◌+◌, drop}
 use Rattle.gp_tree.specs.Statement.{statements}
-use Rattle.gp_typing.specs.Pieces.{continued}
-use Rattle.gp_typing.specs.StatementView.{block_in, block_view, frame_view, known_for}
+use Rattle.gp_typing.specs.code.Pieces.{continued}
+use Rattle.gp_typing.specs.code.StatementView.{block_in, block_view, frame_view, known_for}
 use Rattle.gp_typing.proofs.StatementSizes.{block_steps, statement_steps}
 use Rattle.gp_typing.proofs.statements.+statements.Given as goal
 

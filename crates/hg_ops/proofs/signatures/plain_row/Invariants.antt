@@ -1,5 +1,5 @@
 use Rattle.std.proofs.Common.{◌≡◌, ◌++◌, map, drop}
-use Rattle.hg_ops.specs.PlainType.{plain_type}
+use Rattle.hg_ops.specs.code.PlainType.{plain_type}
 use Rattle.hg_ops.proofs.signatures.plain_row.Given as goal
 
 -- the types so far, and those that are left

@@ -16,7 +16,7 @@ use Rattle.gp_typing.specs.declared.value.Values as declared_row
 use Rattle.gp_typing.specs.Checks.{Checked, ◌>>=◌, check, found}
 use Rattle.gp_typing.specs.Expressions as spec
 use Rattle.gp_typing.specs.Expressions.{Arguments, arguments_of, called}
-use Rattle.gp_typing.specs.ExpressionView.{values_view}
+use Rattle.gp_typing.specs.code.ExpressionView.{values_view}
 use Rattle.gp_scope.specs.ScopeView.{known_in}
 use Rattle.gp_typing.specs.Typed.{TypedExpression, TypedExpressions}
 use Rattle.gp_typing.specs.View.{expressions_view}

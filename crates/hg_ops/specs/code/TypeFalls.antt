@@ -6,7 +6,7 @@ use Rattle.hg_ops.specs.declared.graph_type.GraphType.{GraphType as Declared}
 use Rattle.hg_ops.specs.declared.graph_type.GraphType.TheVariants as kind
 use Rattle.hg_ops.specs.declared.graph_type.Row.TheDeep.{deep-GraphType}
 use Rattle.hg_ops.specs.GraphType.{GraphType}
-use Rattle.hg_ops.specs.TypeSize.{type_size, row_size, rows_size}
+use Rattle.hg_ops.specs.code.TypeSize.{type_size, row_size, rows_size}
 use Rattle.hg_ops.specs.TypeView.{type_view}
 
 deep_le-type_size : (t : Declared) → deep-GraphType t ≤ type_size (type_view t)

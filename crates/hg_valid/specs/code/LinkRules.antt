@@ -4,7 +4,7 @@ use Rattle.gp_base.specs.Membership.{In}
 use Rattle.hg_graph.specs.Graph.{Graph, Link}
 use Rattle.hg_valid.specs.declared.rule.LinkRule.{LinkRule}
 use Rattle.hg_valid.specs.declared.rule.LinkRule.TheVariants.{Joins, SameParent}
-use Rattle.hg_valid.specs.Parts.{target, LinkJoins, LinkStays}
+use Rattle.hg_valid.specs.code.Parts.{target, LinkJoins, LinkStays}
 
 -- the link keeps the rule
 abbrev pub LinkKeeps : Graph → LinkRule → Link → Type 0

@@ -7,9 +7,9 @@ use Rattle.gp_types.specs.Types as types
 use Rattle.gp_locals.specs.Environment.{Environment}
 use Rattle.gp_typing.specs.declared.frame.Frame as declared_frame
 use Rattle.gp_typing.specs.Checks.{Checked, ◌>>=◌}
-use Rattle.gp_typing.specs.Pieces.{tested, counted, named, ended_if, ended_while, ended_for, next_of}
+use Rattle.gp_typing.specs.code.Pieces.{tested, counted, named, ended_if, ended_while, ended_for, next_of}
 use Rattle.gp_typing.specs.Statements.{BlockTyping, StatementTyping}
-use Rattle.gp_typing.specs.StatementView.{block_in, frame_view, known_for, value_in}
+use Rattle.gp_typing.specs.code.StatementView.{block_in, frame_view, known_for, value_in}
 
 abbrev pub if_in : declared_frame.Frame → Environment → LineNo → (test : Expression) → (body other : Statements) → Checked StatementTyping
 if_in frame e line test body other =

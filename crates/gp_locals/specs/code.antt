@@ -1,0 +1,3 @@
+-- What follows the code: no public contract cites it.
+pub mod TypeCode
+pub mod Usable

@@ -5,9 +5,7 @@ use Rattle.gp_types.specs.Types.{Ty}
 use Rattle.gp_locals.specs.declared.environment.Found.{Found}
 use Rattle.gp_locals.specs.declared.environment.Found.TheVariants.{Foreign, Unusable, Usable}
 use Rattle.gp_locals.specs.declared.name_type.NameType as declared
-use Rattle.gp_locals.specs.declared.usable.UsableName as declared_usable
 use Rattle.gp_locals.specs.Environment.{NameType}
-use Rattle.gp_locals.specs.code.Usable.{UsableName}
 
 abbrev pub found_view : Found → Option (Option Ty)
 found_view Foreign = None
@@ -16,6 +14,3 @@ found_view (Usable ty) = Some (Some (ty_view ty.now))
 
 abbrev pub name_view : declared.NameType → NameType
 name_view n = record { name = n.name; ty = ty_view n.ty }
-
-abbrev pub usable_view : declared_usable.UsableName → UsableName
-usable_view u = record { position = u.position; ty = ty_view u.ty }

@@ -29,7 +29,7 @@ impl Model for Environment {
     ghost use Rattle.std.specs.Prelude.{map};
     ghost use Rattle.gp_locals.specs.Environment as spec;
     ghost use Rattle.gp_locals.specs.code.Usable.{spread, IsListed};
-    ghost use Rattle.gp_locals.specs.View.{usable_view};
+    ghost use Rattle.gp_locals.specs.code.UsableView.{usable_view};
     ghost use Rattle.gp_locals.specs.code.TypeCode.{coded_types};
 
     ghost Value = { spec.Environment };

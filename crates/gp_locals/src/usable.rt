@@ -5,7 +5,8 @@ ghost use Rattle.std.specs.Option.{option_copied};
 ghost use Rattle.std.specs.List.{list_all};
 ghost use Rattle.gp_types.specs.View.{ty_view};
 ghost use Rattle.gp_locals.specs.code.Usable as spec;
-ghost use Rattle.gp_locals.specs.View.{name_view, usable_view};
+ghost use Rattle.gp_locals.specs.View.{name_view};
+ghost use Rattle.gp_locals.specs.code.UsableView.{usable_view};
 
 use crate::name_type::{NameType, NameTypes};
 use gp_base::{Name, Sequence};

@@ -45,7 +45,8 @@ impl Model for Graph {
 
     ghost coded = { Prim.hlevel (codes, coded_type) };
 
-    ghost use Rattle.hg_graph.specs.NodeView.{graph_view, IsInStep};
+    ghost use Rattle.hg_graph.specs.NodeView.{graph_view};
+    ghost use Rattle.hg_graph.specs.code.InStep.{IsInStep};
 
     ghost view = { graph_view };
 

@@ -1,7 +1,7 @@
 use Rattle.std.proofs.Common.{◌≡◌, map, drop}
 use Rattle.std.specs.List.{list_all}
 use Rattle.gp_locals.specs.code.Usable as spec
-use Rattle.gp_locals.specs.View.{usable_view}
+use Rattle.gp_locals.specs.code.UsableView.{usable_view}
 use Rattle.gp_locals.proofs.usable.are_kept.Given as goal
 
 -- those that are left decide

@@ -1,6 +1,7 @@
 use Rattle.std.proofs.Common.{◌≡◌, ◌++◌, map, drop}
 use Rattle.gp_locals.specs.code.Usable as spec
-use Rattle.gp_locals.specs.View.{name_view, usable_view}
+use Rattle.gp_locals.specs.View.{name_view}
+use Rattle.gp_locals.specs.code.UsableView.{usable_view}
 use Rattle.gp_locals.proofs.usable.by_names.Given as goal
 
 -- with those that are left, the whole

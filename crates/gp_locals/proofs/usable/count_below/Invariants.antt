@@ -1,6 +1,6 @@
 use Rattle.std.proofs.Common.{◌≡◌, ◌+◌, map, drop}
 use Rattle.gp_locals.specs.code.Usable as spec
-use Rattle.gp_locals.specs.View.{usable_view}
+use Rattle.gp_locals.specs.code.UsableView.{usable_view}
 use Rattle.gp_locals.proofs.usable.count_below.Given as goal
 
 -- with those that are left, the whole

@@ -3,7 +3,7 @@ use Rattle.std.specs.Prelude.{slice_get, slice_set}
 use Rattle.std.specs.List.{insert}
 use Rattle.gp_types.specs.View.{ty_view}
 use Rattle.gp_locals.specs.code.Usable.{count_below, stands_at}
-use Rattle.gp_locals.specs.View.{usable_view}
+use Rattle.gp_locals.specs.code.UsableView.{usable_view}
 use Rattle.gp_locals.proofs.UsableNames.{put_there, put_new, set_view, insert_view}
 use Rattle.gp_locals.proofs.usable.put_among.Goals as goal
 

@@ -1,7 +1,7 @@
 use Rattle.std.proofs.Common.{◌∙◌, ap, sym, map, Some}
 use Rattle.gp_locals.specs.Environment.{type_at}
 use Rattle.gp_locals.specs.code.Usable.{type_among}
-use Rattle.gp_locals.specs.View.{usable_view}
+use Rattle.gp_locals.specs.code.UsableView.{usable_view}
 use Rattle.gp_locals.proofs.UsableNames.{lists, type_is}
 use Rattle.gp_locals.proofs.environment.Environment.find.Goals as goal
 

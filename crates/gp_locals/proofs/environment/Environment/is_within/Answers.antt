@@ -1,7 +1,7 @@
 use Rattle.std.proofs.Common.{◌∙◌, ap, map}
 use Rattle.gp_locals.specs.Environment.{total_size}
 use Rattle.gp_locals.specs.code.Usable.{sizes}
-use Rattle.gp_locals.specs.View.{usable_view}
+use Rattle.gp_locals.specs.code.UsableView.{usable_view}
 use Rattle.gp_locals.proofs.UsableNames.{lists, sizes_are, within_is}
 use Rattle.gp_locals.proofs.environment.Environment.is_within.Goals as goal
 

@@ -1,7 +1,7 @@
 use Rattle.std.proofs.Common.{◌∙◌, ap, map, filter}
 use Rattle.gp_locals.specs.Environment.{join}
 use Rattle.gp_locals.specs.code.Usable.{is_kept_among}
-use Rattle.gp_locals.specs.View.{usable_view}
+use Rattle.gp_locals.specs.code.UsableView.{usable_view}
 use Rattle.gp_locals.proofs.UsableNames.{lists, lists_join, same_list, is_listed, view_of}
 use Rattle.gp_locals.proofs.environment.Environment.join.Goals as goal
 

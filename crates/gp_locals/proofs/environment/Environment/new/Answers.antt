@@ -1,6 +1,6 @@
 use Rattle.std.proofs.Common.{ap, length, map}
 use Rattle.gp_locals.specs.Environment.{nothing_usable}
-use Rattle.gp_locals.specs.View.{usable_view}
+use Rattle.gp_locals.specs.code.UsableView.{usable_view}
 use Rattle.gp_locals.proofs.UsableNames.{lists_new, is_listed, view_of}
 use Rattle.gp_locals.proofs.environment.Environment.new.Goals as goal
 

@@ -2,7 +2,7 @@ use Rattle.std.proofs.Common.{◌≡◌, ◌∙◌, ap, sym, subst, map, OnOk}
 use Rattle.gp_types.specs.View.{ty_view}
 use Rattle.gp_locals.specs.Environment.{put_at}
 use Rattle.gp_locals.specs.code.Usable.{spread}
-use Rattle.gp_locals.specs.View.{usable_view}
+use Rattle.gp_locals.specs.code.UsableView.{usable_view}
 use Rattle.gp_locals.proofs.UsableNames.{lists, put_outside, put_listed, put_viewed}
 use Rattle.gp_locals.proofs.environment.Environment.put.Goals as goal
 

@@ -1,6 +1,7 @@
 use Rattle.std.proofs.Common.{◌≡◌, ◌∙◌, ap, subst, map, IfOk}
 use Rattle.gp_locals.specs.code.Usable.{by_names}
-use Rattle.gp_locals.specs.View.{name_view, usable_view}
+use Rattle.gp_locals.specs.View.{name_view}
+use Rattle.gp_locals.specs.code.UsableView.{usable_view}
 use Rattle.gp_locals.proofs.UsableNames.{lists, names_are}
 use Rattle.gp_locals.proofs.environment.Environment.usable.Goals as goal
 

@@ -5,3 +5,4 @@ pub mod LineForms
 pub mod LineSize
 pub mod Reading
 pub mod Steps
+pub mod FormLaws

@@ -1,6 +1,6 @@
 //! Each public call once. Which lines have which forms is in the tables of `gp_rows`.
 
-use crate::laws::one_form;
+use crate::laws::{form_or_none, one_form};
 use crate::line::line_form;
 use gp_lex::lines;
 use gp_tree::LineForm;
@@ -16,6 +16,7 @@ fn a_line_has_its_form(rt: HostRuntime) -> Result<(), Fail> {
 }
 
 #[test]
-fn the_law_can_be_called() {
+fn the_laws_can_be_called() {
     one_form();
+    form_or_none();
 }

@@ -140,7 +140,7 @@ free-more q path (s ∷ ss) =
     let rest : free (q ∷ path) ss ≤ free path ss = free-more q path ss in
     omega arith
 
-free-less : (q : List ℕ) (path : List (List ℕ)) (ss : List StructDefinition) (found : StructDefinition) → find (λ s. bytes_eq q s.name) ss ≡ Some found
+pub free-less : (q : List ℕ) (path : List (List ℕ)) (ss : List StructDefinition) (found : StructDefinition) → find (λ s. bytes_eq q s.name) ss ≡ Some found
     → is_among q path ≡ false → free (q ∷ path) ss < free path ss
 free-less q path [] found e out = absurd cc
 free-less q path (s ∷ ss) found e out =

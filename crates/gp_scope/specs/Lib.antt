@@ -17,3 +17,4 @@ pub mod Levels
 pub mod Known
 pub mod ScopeView
 pub mod Collected
+pub mod NamesLaws

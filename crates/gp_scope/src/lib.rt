@@ -9,6 +9,7 @@ mod cycles;
 mod definitions;
 pub mod fault;
 mod imports;
+pub mod laws;
 pub mod modules;
 mod names;
 mod parts;

@@ -1,6 +1,7 @@
 //! Each public call once. What the rules of names say of programs is in the tables of `gp_rows`.
 
 use crate::fault::ScopeFault;
+use crate::laws::fault_or_scope;
 use crate::modules::offers;
 use crate::phase::collect;
 use gp_base::{LineNo, Name, Names};
@@ -46,4 +47,9 @@ fn a_program_has_its_first_fault(rt: HostRuntime) -> Result<(), Fail> {
     let fault = collect(rt.alloc(), &program).err();
     assert!(rt; matches!(fault, Some(ScopeFault::ImportUnknown(LineNo(1)))));
     Ok(())
+}
+
+#[test]
+fn the_law_can_be_called() {
+    fault_or_scope();
 }

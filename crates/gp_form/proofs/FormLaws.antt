@@ -4,7 +4,7 @@ use Rattle.std.proofs.lemmas.Bool.{cases_lt}
 use Rattle.gp_lex.specs.declared.token.Token.{Token}
 use Rattle.gp_tree.specs.Form.{Form}
 use Rattle.gp_form.specs.FormLaws.{HasFormOrNone}
-use Rattle.gp_form.specs.FormReading.{line}
+use Rattle.gp_form.specs.code.FormReading.{line}
 use Rattle.gp_form.specs.Forms.{SpellsForm}
 use Rattle.gp_form.specs.LineSize.{IsTooBig, OpensTooMany, is_opening, is_closing}
 use Rattle.gp_form.proofs.FormComplete.{line_complete}

@@ -10,7 +10,7 @@ use Rattle.hg_ops.specs.Op.{Op, Module, FuncDefn, Input, Output, Ext, Alloc, Gat
 use Rattle.hg_graph.specs.Graph.{Link, Ports, Order, Graph}
 use Rattle.hg_json.specs.InHand.{IsWithin, HasPorts, IsInHand}
 use Rattle.hg_json.specs.GraphText.{IsServed, AreServed, array_of, node_members, node_data, link_data, graph_data, json}
-use Rattle.hg_json.specs.Reading.{Refusal, BadNode, BadLink, no_types_at, op_named, func_defn, input, output, node_of, end_of, link_of, each, count, linked, entries_of, versioned, graph_in, value_of, graph_of}
+use Rattle.hg_json.specs.Reading.{Refusal, BadNode, BadLink, no_types_at, op_named, func_defn, input, output, extension_named, node_of, end_of, link_of, each, count, linked, entries_of, versioned, graph_in, value_of, graph_of}
 use Rattle.hg_json.proofs.Compact.{read_compact, compact_utf8}
 use Rattle.hg_json.proofs.Plain.{graph_plain, graph_shallow}
 
@@ -20,7 +20,7 @@ each_back f data_of refusal P Q back k [] p q = refl
 each_back f data_of refusal P Q back k (x ∷ xs) p q = rw (back x (All-head P x xs p) (All-head Q x xs q), each_back f data_of refusal P Q back (suc k) xs (All-tail P x xs p) (All-tail Q x xs q)) refl
 
 op_back : (total parent : ℕ) (op : Op) → parent < total → IsServed op → node_of total (object (node_members op parent)) ≡ Some (record { op = op; parent = parent })
-unfolding node_members node_of op_named func_defn input output no_types_at
+unfolding node_members node_of op_named func_defn input output extension_named no_types_at
 op_back total parent Module l s = rw (lt-ltb parent total l) refl
 op_back total parent (FuncDefn name ins outs) l s = rw (s.0, s.1, lt-ltb parent total l) refl
 op_back total parent (Input types) l s = rw (s, lt-ltb parent total l) refl

@@ -1,5 +1,6 @@
 pub mod Back
 pub mod Compact
+pub mod Names
 pub mod Pieces
 pub mod Plain
 pub mod Pushes

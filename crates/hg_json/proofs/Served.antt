@@ -4,10 +4,12 @@ use Rattle.std.specs.Prelude.{⊤, codes, bytes_eq, ◌==◌}
 use Rattle.std.specs.List.{All}
 use Rattle.std.proofs.lemmas.List.Elements.{All-nil, All-cons}
 use Rattle.serde_json.specs.Data.{Data, Items, no_items, item}
+use Rattle.hg_ops.specs.Names.{ext_op_name}
+use Rattle.hg_ops.specs.declared.ext_op.ExtOp.TheVariants as ext
 use Rattle.hg_ops.specs.Op.{Op, Module, FuncDefn, Input, Output, Ext, Alloc, Gate1, H, X, Free}
 use Rattle.hg_graph.specs.Graph.{Node, Link, Graph}
 use Rattle.hg_json.specs.GraphText.{IsServed, AreServed}
-use Rattle.hg_json.specs.Reading.{Refusal, Top, Version, BadNode, BadLink, ◌>>=◌, when, or_refuse, after, text_at, natural_at, items_at, no_types_at, func_defn, input, output, op_named, node_of, link_of, each, count, linked, entries_of, versioned, graph_in, value_of, graph_of}
+use Rattle.hg_json.specs.Reading.{Refusal, Top, Version, BadNode, BadLink, ◌>>=◌, when, or_refuse, after, text_at, natural_at, items_at, no_types_at, func_defn, input, output, extension_named, op_named, node_of, link_of, each, count, linked, entries_of, versioned, graph_in, value_of, graph_of}
 
 -- ---- what holds of what is found, and of what is read
 
@@ -58,23 +60,30 @@ output_served : (d : Data) → Yields IsServed (output d)
 unfolding output
 output_served d = yields_any IsServed (no_types_at (codes "types") d) (λ _. Some (Output [])) (λ _. refl)
 
-one_of : (a b c d e f g h : Bool) (func input output : Option Op) → Yields IsServed func → Yields IsServed input → Yields IsServed output
-    → Yields IsServed (cond a (Some Module) (cond b func (cond c input (cond d output (cond e (Some (Ext Alloc)) (cond f (Some (Ext (Gate1 H))) (cond g (Some (Ext (Gate1 X))) (cond h (Some (Ext Free)) None))))))))
-one_of true b c d e f g h func input output p q r = tt
-one_of false true c d e f g h func input output p q r = p
-one_of false false true d e f g h func input output p q r = q
-one_of false false false true e f g h func input output p q r = r
-one_of false false false false true f g h func input output p q r = tt
-one_of false false false false false true g h func input output p q r = tt
-one_of false false false false false false true h func input output p q r = tt
-one_of false false false false false false false true func input output p q r = tt
-one_of false false false false false false false false func input output p q r = tt
+one_extension : (a b c d : Bool) → Yields IsServed (cond a (Some (Ext Alloc)) (cond b (Some (Ext (Gate1 H))) (cond c (Some (Ext (Gate1 X))) (cond d (Some (Ext Free)) None))))
+one_extension true b c d = tt
+one_extension false true c d = tt
+one_extension false false true d = tt
+one_extension false false false true = tt
+one_extension false false false false = tt
+
+extension_served : (name : List ℕ) → Yields IsServed (extension_named name)
+unfolding extension_named
+extension_served name = one_extension (bytes_eq name (ext_op_name ext.Alloc)) (bytes_eq name (ext_op_name ext.H)) (bytes_eq name (ext_op_name ext.X)) (bytes_eq name (ext_op_name ext.Free))
+
+one_of : (a b c d : Bool) (func input output extension : Option Op) → Yields IsServed func → Yields IsServed input → Yields IsServed output → Yields IsServed extension
+    → Yields IsServed (cond a (Some Module) (cond b func (cond c input (cond d output extension))))
+one_of true b c d func input output extension p q r s = tt
+one_of false true c d func input output extension p q r s = p
+one_of false false true d func input output extension p q r s = q
+one_of false false false true func input output extension p q r s = r
+one_of false false false false func input output extension p q r s = s
 
 op_served : (name : List ℕ) (d : Data) → Yields IsServed (op_named name d)
 unfolding op_named
 op_served name d =
-    one_of (bytes_eq name (codes "Module")) (bytes_eq name (codes "FuncDefn")) (bytes_eq name (codes "Input")) (bytes_eq name (codes "Output")) (bytes_eq name (codes "quantum.alloc")) (bytes_eq name (codes "quantum.h")) (bytes_eq name (codes "quantum.x")) (bytes_eq name (codes "quantum.free"))
-    (func_defn d) (input d) (output d) (func_served d) (input_served d) (output_served d)
+    one_of (bytes_eq name (codes "Module")) (bytes_eq name (codes "FuncDefn")) (bytes_eq name (codes "Input")) (bytes_eq name (codes "Output"))
+    (func_defn d) (input d) (output d) (extension_named name) (func_served d) (input_served d) (output_served d) (extension_served name)
 
 abbrev OpServed : Node → Type 0
 OpServed node = IsServed node.op

@@ -4,7 +4,9 @@ use Rattle.std.specs.Prelude.{◌≡◌, ℕ, List, [], map, codes, All, ⊤}
 use Rattle.serde_json.specs.Data.{unsigned, Data, null, number, string, array, object, Items, no_items, item, Members, no_members, member}
 use Rattle.serde_json.specs.View.{items_of}
 use Rattle.serde_json.specs.Written.{compact_text}
+use Rattle.hg_ops.specs.Names.{ext_op_name}
 use Rattle.hg_ops.specs.Op.{Op, Module, FuncDefn, Input, Output, Ext, Alloc, Gate1, H, X, Free}
+use Rattle.hg_ops.specs.declared.ext_op.ExtOp.TheVariants as ext
 use Rattle.hg_graph.specs.Graph.{Node, Link, Ports, Order, Graph}
 
 -- the data of each entry
@@ -56,10 +58,10 @@ node_members Module parent = bare (codes "Module") parent
 node_members (FuncDefn name ins outs) parent = function name parent
 node_members (Input types) parent = typed (codes "Input") parent
 node_members (Output types) parent = typed (codes "Output") parent
-node_members (Ext Alloc) parent = bare (codes "quantum.alloc") parent
-node_members (Ext (Gate1 H)) parent = bare (codes "quantum.h") parent
-node_members (Ext (Gate1 X)) parent = bare (codes "quantum.x") parent
-node_members (Ext Free) parent = bare (codes "quantum.free") parent
+node_members (Ext Alloc) parent = bare (ext_op_name ext.Alloc) parent
+node_members (Ext (Gate1 H)) parent = bare (ext_op_name ext.H) parent
+node_members (Ext (Gate1 X)) parent = bare (ext_op_name ext.X) parent
+node_members (Ext Free) parent = bare (ext_op_name ext.Free) parent
 node_members _ parent = no_members
 
 -- the data of a node

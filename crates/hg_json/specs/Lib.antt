@@ -1,5 +1,5 @@
 pub mod Answers
-pub mod Ends
 pub mod GraphText
 pub mod InHand
 pub mod Reading
+pub mod code

@@ -5,7 +5,9 @@ use Rattle.std.specs.Str.{is_utf8}
 use Rattle.serde_json.specs.Data.{Data, null, Items, no_items, item}
 use Rattle.serde_json.specs.Read.{read}
 use Rattle.serde_json.specs.Find.{get, as_str, as_array, as_number, as_u64}
+use Rattle.hg_ops.specs.Names.{ext_op_name}
 use Rattle.hg_ops.specs.Op.{Op, Module, FuncDefn, Input, Output, Ext, Alloc, Gate1, H, X, Free}
+use Rattle.hg_ops.specs.declared.ext_op.ExtOp.TheVariants as ext
 use Rattle.hg_graph.specs.Graph.{Node, Port, Link, Ports, Order, Graph}
 
 -- Why a text stands for no graph. Entries of `nodes` and `edges` are counted from 0.
@@ -67,17 +69,21 @@ input d = no_types_at (codes "types") d >>= λ _. Some (Input [])
 unfoldable pub output : Data → Option Op
 output d = no_types_at (codes "types") d >>= λ _. Some (Output [])
 
+-- the op of an extension of this name, where it is read
+unfoldable pub extension_named : List ℕ → Option Op
+extension_named name =
+    if bytes_eq name (ext_op_name ext.Alloc) then Some (Ext Alloc) else
+    (if bytes_eq name (ext_op_name ext.H) then Some (Ext (Gate1 H)) else
+    (if bytes_eq name (ext_op_name ext.X) then Some (Ext (Gate1 X)) else
+    (if bytes_eq name (ext_op_name ext.Free) then Some (Ext Free) else None)))
+
 -- the op of this name, with its keys
 unfoldable pub op_named : List ℕ → Data → Option Op
 op_named name d =
     if bytes_eq name (codes "Module") then Some Module else
     (if bytes_eq name (codes "FuncDefn") then func_defn d else
     (if bytes_eq name (codes "Input") then input d else
-    (if bytes_eq name (codes "Output") then output d else
-    (if bytes_eq name (codes "quantum.alloc") then Some (Ext Alloc) else
-    (if bytes_eq name (codes "quantum.h") then Some (Ext (Gate1 H)) else
-    (if bytes_eq name (codes "quantum.x") then Some (Ext (Gate1 X)) else
-    (if bytes_eq name (codes "quantum.free") then Some (Ext Free) else None)))))))
+    (if bytes_eq name (codes "Output") then output d else extension_named name)))
 
 -- a node of a graph of `total` nodes
 unfoldable pub node_of : ℕ → Data → Option Node

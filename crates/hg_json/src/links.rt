@@ -4,8 +4,8 @@ ghost use Rattle.std.specs.Prelude.{◌≡◌, ◌<◌, IfSome};
 ghost use Rattle.serde_json.specs.View.{view, items_view};
 ghost use Rattle.hg_graph.specs.View.{link_view};
 ghost use Rattle.hg_json.specs.Reading as spec;
-ghost use Rattle.hg_json.specs.Answers.{Finds};
-ghost use Rattle.hg_json.specs.Ends.{end_view, node_of_end};
+ghost use Rattle.hg_json.specs.code.Found.{Finds};
+ghost use Rattle.hg_json.specs.code.Ends.{end_view, node_of_end};
 ghost use Rattle.hg_json.specs.InHand.{IsWithin};
 
 use hg_graph::{Link, NodeId, Port};

@@ -5,13 +5,13 @@ ghost use Rattle.serde_json.specs.View.{view};
 ghost use Rattle.hg_ops.specs.OpView.{op_view};
 ghost use Rattle.hg_graph.specs.NodeView.{node_view};
 ghost use Rattle.hg_json.specs.Reading as spec;
-ghost use Rattle.hg_json.specs.Answers.{Gives};
+ghost use Rattle.hg_json.specs.code.Found.{Finds, Gives};
 
 use crate::fault::Miss;
 use crate::parts::{natural_at, no_types_at, text_at};
 use gp_base::Name;
 use hg_graph::{Node, NodeId};
-use hg_ops::{OpKind, Row};
+use hg_ops::{ExtOp, OpKind, Row, op_of_name};
 use serde_json::Value;
 use std::alloc::Global;
 
@@ -53,6 +53,19 @@ fn output(alloc: Global, value: &Value) -> Result<OpKind, Miss>
     })
 }
 
+// The op of an extension of this name, where it is read.
+fn extension_named(name: &str) -> Option<OpKind>
+    ensures { Finds op_view result (spec.extension_named name.now) }
+{
+    match op_of_name(name)? {
+        ExtOp::Alloc => Some(OpKind::Alloc),
+        ExtOp::H => Some(OpKind::H),
+        ExtOp::X => Some(OpKind::X),
+        ExtOp::Free => Some(OpKind::Free),
+        _ => None,
+    }
+}
+
 // The op of this name, with its keys.
 #[tactic(auto, unfolding(crate::specs::Reading::op_named))]
 fn op_named(alloc: Global, name: &str, value: &Value) -> Result<OpKind, Miss>
@@ -63,11 +76,7 @@ fn op_named(alloc: Global, name: &str, value: &Value) -> Result<OpKind, Miss>
         "FuncDefn" => func_defn(alloc, value),
         "Input" => input(alloc, value),
         "Output" => output(alloc, value),
-        "quantum.alloc" => Ok(OpKind::Alloc),
-        "quantum.h" => Ok(OpKind::H),
-        "quantum.x" => Ok(OpKind::X),
-        "quantum.free" => Ok(OpKind::Free),
-        _ => Err(Miss::Shape),
+        _ => extension_named(name).ok_or(Miss::Shape),
     }
 }
 

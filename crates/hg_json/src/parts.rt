@@ -2,7 +2,7 @@
 
 ghost use Rattle.serde_json.specs.View.{view, items_view};
 ghost use Rattle.hg_json.specs.Reading as spec;
-ghost use Rattle.hg_json.specs.Answers.{Finds};
+ghost use Rattle.hg_json.specs.code.Found.{Finds};
 
 use serde_json::Value;
 

@@ -11,7 +11,7 @@ ghost use Rattle.hg_json.specs.GraphText as spec;
 ghost use Rattle.hg_json.specs.GraphText.{IsServed, AreServed, array_of, node_data, node_members, link_data, json};
 
 use hg_graph::{Graph, Link, NodeId, Port};
-use hg_ops::OpKind;
+use hg_ops::{ExtOp, OpKind, name_of};
 use serde_json::{Value, json};
 use std::alloc::{AllocError, Global};
 
@@ -47,10 +47,10 @@ fn node_value(alloc: Global, op: &OpKind, parent: u64) -> Result<Value, AllocErr
         OpKind::FuncDefn { name, .. } => function(alloc, name.as_str(), parent),
         OpKind::Input { .. } => typed(alloc, "Input", parent),
         OpKind::Output { .. } => typed(alloc, "Output", parent),
-        OpKind::Alloc => bare(alloc, "quantum.alloc", parent),
-        OpKind::H => bare(alloc, "quantum.h", parent),
-        OpKind::X => bare(alloc, "quantum.x", parent),
-        OpKind::Free => bare(alloc, "quantum.free", parent),
+        OpKind::Alloc => bare(alloc, name_of(ExtOp::Alloc), parent),
+        OpKind::H => bare(alloc, name_of(ExtOp::H), parent),
+        OpKind::X => bare(alloc, name_of(ExtOp::X), parent),
+        OpKind::Free => bare(alloc, name_of(ExtOp::Free), parent),
         _ => unreachable!(),
     }
 }

@@ -1,3 +1,4 @@
+pub mod ThinDecided
 mod ThinParts
 mod ThinText
 mod Told

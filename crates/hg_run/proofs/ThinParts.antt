@@ -6,7 +6,7 @@ use Rattle.hg_ops.specs.Op as op
 use Rattle.hg_graph.specs.Graph.{Node, Link, Graph, op_of, op_at, parent_of, parent_at}
 use Rattle.hg_graph.specs.Thin.{ThinGate, H, X, gate_op, in_main, chain, thin_graph}
 use Rattle.hg_run.specs.ThinRun.{IsThinGraph}
-use Rattle.hg_run.specs.ThinShape.{first_nodes, IsThinTail, HasThinNodes, value_link, order_link}
+use Rattle.hg_run.specs.code.ThinShape.{first_nodes, IsThinTail, HasThinNodes, value_link, order_link}
 
 -- one equivalence after another
 pub ↔_trans : {A B C : Type 0} → A ↔ B → B ↔ C → A ↔ C
@@ -46,7 +46,7 @@ gate_stays : (gate : ThinGate) → gate_op gate ≡ op.Ext op.Free → ⊥
 gate_stays H e = cc
 gate_stays X e = cc
 
-some_left : (gates : List ThinGate) → [] ≡ map in_main (map gate_op gates ++ op.Ext op.Free ∷ []) → ⊥
+pub some_left : (gates : List ThinGate) → [] ≡ map in_main (map gate_op gates ++ op.Ext op.Free ∷ []) → ⊥
 some_left [] e = cc
 some_left (gate ∷ gates) e = cc
 

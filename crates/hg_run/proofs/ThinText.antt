@@ -12,7 +12,8 @@ use Rattle.hg_ops.specs.Op as op
 use Rattle.hg_graph.specs.Graph.{Graph}
 use Rattle.hg_graph.specs.Thin.{ThinGate, H, X, gate_op, gate_name, in_main, thin_graph, thin_events}
 use Rattle.hg_graph.proofs.ThinRuns.{thin_graphs_run}
-use Rattle.hg_run.specs.ThinRun.{IsThinGraph, main_run, text_of_run, node_line}
+use Rattle.hg_run.specs.ThinRun.{IsThinGraph, main_run, text_of_run}
+use Rattle.hg_run.specs.code.ThinLines.{node_line}
 
 -- the lines of the nodes behind `Alloc`
 gate_lines : (gates : List ThinGate)

@@ -8,7 +8,7 @@ use Rattle.std.specs.List.{flat_map}
 use Rattle.gp_base.specs.Outside.{appended, Wrote, WrotePart}
 use Rattle.gp_base.proofs.Pieces.{appended-appended}
 use Rattle.hg_graph.specs.Graph.{Graph, Node, op_of, op_at}
-use Rattle.hg_run.specs.ThinRun.{op_line, node_line}
+use Rattle.hg_run.specs.code.ThinLines.{op_line, node_line}
 
 -- the text is written, and no fault is forgotten
 pub record Told (text : List ℕ) (before now : Option (List ℕ)) (faults faults_now : ℕ) : Type 0 where

@@ -1,2 +1,2 @@
 pub mod ThinRun
-pub mod ThinShape
+pub mod code

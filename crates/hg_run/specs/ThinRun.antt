@@ -1,14 +1,11 @@
 -- Which graphs are thin, and what is told of their runs.
-use Rattle.std.specs.Prelude.{◌≡◌, ℕ, List, [], Option, Some, None}
+use Rattle.std.specs.Prelude.{◌≡◌, ℕ, List, []}
 use Rattle.gp_base.specs.declared.event.End.TheVariants as end
 use Rattle.gp_base.specs.declared.event.Event.{Event}
-use Rattle.gp_base.specs.declared.event.Event.TheVariants as event
-use Rattle.gp_base.specs.declared.event.GateName.TheVariants as gate
-use Rattle.gp_base.specs.EventText.{event_line, trace}
+use Rattle.gp_base.specs.EventText.{trace}
 use Rattle.gp_base.specs.Run.{Out, Returned, Stopped, Stop, TurnsUsed, OutcomesUsed, DivisionByZero, Stuck}
 use Rattle.gp_base.specs.World.{start}
-use Rattle.hg_ops.specs.Op.{Op, Ext, Alloc, Gate1, H, X, Free}
-use Rattle.hg_graph.specs.Graph.{Graph, Node}
+use Rattle.hg_graph.specs.Graph.{Graph}
 use Rattle.hg_graph.specs.Run.{State, run_function}
 use Rattle.hg_graph.specs.Thin.{ThinGate, thin_graph}
 use Rattle.hg_graph.specs.Value.{Value}
@@ -32,23 +29,3 @@ text_of_stop events Stuck = []
 abbrev pub text_of_run : Out (State (Unit {0})) (List Value) → List ℕ
 text_of_run (Returned values s) = trace s.world.events end.Returned
 text_of_run (Stopped stop s) = text_of_stop s.world.events stop
-
--- what an op does to qubit 0
-abbrev pub event_of : Op → Option Event
-event_of (Ext Alloc) = Some (event.Alloc 0)
-event_of (Ext (Gate1 H)) = Some (event.Gate1 gate.H 0)
-event_of (Ext (Gate1 X)) = Some (event.Gate1 gate.X 0)
-event_of (Ext Free) = Some (event.Free 0)
-event_of _ = None
-
--- the line of an event, where there is one
-abbrev pub line_of : Option Event → List ℕ
-line_of None = []
-line_of (Some e) = event_line e
-
--- what is told of an op, and of a node
-abbrev pub op_line : Op → List ℕ
-op_line kind = line_of (event_of kind)
-
-abbrev pub node_line : Node → List ℕ
-node_line node = op_line node.op

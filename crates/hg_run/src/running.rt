@@ -4,7 +4,8 @@ ghost use Rattle.std.specs.Prelude.{◌≡◌, ◌≢◌, ◌≤◌, OnOk, OnErr
 ghost use Rattle.std.specs.List.{flat_map};
 ghost use Rattle.gp_base.specs.Outside.{Rose, Wrote, WrotePart};
 ghost use Rattle.hg_ops.specs.OpView.{op_view};
-ghost use Rattle.hg_run.specs.ThinRun.{IsThinGraph, main_run, text_of_run, event_of, op_line, node_line};
+ghost use Rattle.hg_run.specs.ThinRun.{IsThinGraph, main_run, text_of_run};
+ghost use Rattle.hg_run.specs.code.ThinLines.{event_of, op_line, node_line};
 ghost use Rattle.hg_run.specs.declared.fault.RunFault.TheVariants as fault;
 
 use crate::fault::RunFault;

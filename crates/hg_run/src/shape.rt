@@ -6,7 +6,7 @@ ghost use Rattle.hg_graph.specs.View.{port_view, link_view};
 ghost use Rattle.hg_ops.specs.OpView.{op_view};
 ghost use Rattle.hg_ops.specs.Op as op;
 ghost use Rattle.hg_run.specs.ThinRun.{IsThinGraph};
-ghost use Rattle.hg_run.specs.ThinShape.{op_of, thin_node, first_nodes, IsThinTail, HasThinNodes, first_port, value_link, order_link};
+ghost use Rattle.hg_run.specs.code.ThinShape.{op_of, thin_node, first_nodes, IsThinTail, HasThinNodes, first_port, value_link, order_link};
 ghost use Rattle.hg_run.specs.declared.shape.ThinOp as declared;
 
 use gp_base::Name;

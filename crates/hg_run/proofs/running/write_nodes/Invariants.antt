@@ -1,6 +1,6 @@
 use Rattle.std.proofs.Common.{take}
 use Rattle.std.specs.List.{flat_map}
-use Rattle.hg_run.specs.ThinRun.{node_line}
+use Rattle.hg_run.specs.code.ThinLines.{node_line}
 use Rattle.hg_run.proofs.Told.{Told}
 use Rattle.hg_run.proofs.running.write_nodes.Given as goal
 

@@ -1,5 +1,5 @@
 use Rattle.std.proofs.Common.{◌↔◌, drop}
-use Rattle.hg_run.specs.ThinShape.{IsThinTail}
+use Rattle.hg_run.specs.code.ThinShape.{IsThinTail}
 use Rattle.hg_run.proofs.shape.has_last_nodes.Given as goal
 
 abbrev pub invariant-loop-number : goal.invariant-loop-number

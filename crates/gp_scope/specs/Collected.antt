@@ -6,7 +6,7 @@ use Rattle.gp_scope.specs.declared.fault.ScopeFault.TheVariants.{Memory}
 use Rattle.gp_scope.specs.declared.names.Names.{Names}
 use Rattle.gp_scope.specs.declared.scope.Scope.{Scope}
 use Rattle.gp_scope.specs.FirstFault.{IsFirstFault, names_fault}
-use Rattle.gp_scope.specs.NamesOf.{AreNames}
+use Rattle.gp_scope.specs.code.NamesOf.{AreNames}
 use Rattle.gp_scope.specs.ScopeView.{IsScopeOf}
 
 -- `Ok` exactly where the names have no fault, and then with the program's scope; else the first fault

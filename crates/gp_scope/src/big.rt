@@ -6,9 +6,9 @@ ghost use Rattle.gp_tree.specs.Program.{program_items, function_definition};
 ghost use Rattle.gp_tree.specs.TypeExpression.{type_expression, maybe_type, named_type};
 ghost use Rattle.gp_scope.specs.Checks.{Answers};
 ghost use Rattle.gp_scope.specs.Sizes as spec;
-ghost use Rattle.gp_scope.specs.SizesOf.{AreSizes};
-ghost use Rattle.gp_scope.specs.NamesOf.{AreNames};
-ghost use Rattle.gp_scope.specs.AnnotationView.{annotation};
+ghost use Rattle.gp_scope.specs.code.SizesOf.{AreSizes};
+ghost use Rattle.gp_scope.specs.code.NamesOf.{AreNames};
+ghost use Rattle.gp_scope.specs.code.AnnotationView.{annotation};
 
 use crate::annotations::{Annotation, annotations};
 use crate::fault::ScopeFault;

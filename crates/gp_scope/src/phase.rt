@@ -5,8 +5,8 @@ ghost use Rattle.std.specs.List.{list_any};
 ghost use Rattle.gp_tree.specs.Program.{program_items};
 ghost use Rattle.gp_scope.specs.Collected.{CollectAnswer, NamesAnswer};
 ghost use Rattle.gp_scope.specs.FirstFault.{CyclesAnswer, names_fault};
-ghost use Rattle.gp_scope.specs.Levels.{level_size};
-ghost use Rattle.gp_scope.specs.NamesOf.{AreNames, AreWhole};
+ghost use Rattle.gp_scope.specs.code.Levels.{level_size};
+ghost use Rattle.gp_scope.specs.code.NamesOf.{AreNames, AreWhole};
 ghost use Rattle.gp_scope.specs.ScopeView.{IsScopeOf};
 ghost use Rattle.gp_scope.specs.Tables.{value_in};
 

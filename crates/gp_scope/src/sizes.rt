@@ -5,9 +5,9 @@ ghost use Rattle.indexmap.specs.IndexMap.{values, index_map_len};
 ghost use Rattle.gp_tree.specs.Form.{parameter};
 ghost use Rattle.gp_tree.specs.Program.{program_items, field_definition, struct_definition, function_definition};
 ghost use Rattle.gp_tree.specs.TypeExpression.{type_expression, type_expressions, maybe_type};
-ghost use Rattle.gp_scope.specs.Levels.{size_by, total_by, fields_total, level_size};
+ghost use Rattle.gp_scope.specs.code.Levels.{size_by, total_by, fields_total, level_size};
 ghost use Rattle.gp_scope.specs.Tables.{value_in};
-ghost use Rattle.gp_scope.specs.NamesOf.{AreNames};
+ghost use Rattle.gp_scope.specs.code.NamesOf.{AreNames};
 
 use crate::names::{Names, value_of};
 use gp_tree::{FieldDecl, TypeExpr};

@@ -8,7 +8,7 @@ ghost use Rattle.gp_types.specs.View.{ty_view, field_view};
 ghost use Rattle.gp_types.specs.Signature.{parameter_view, signature_view};
 ghost use Rattle.gp_scope.specs.Spelled.{spelled, spelled_by, spelled_field, parameter_of, signature_of};
 ghost use Rattle.gp_scope.specs.Spelled as spec;
-ghost use Rattle.gp_scope.specs.NamesOf.{AreWhole, whole};
+ghost use Rattle.gp_scope.specs.code.NamesOf.{AreWhole, whole};
 
 use crate::names::Names;
 use gp_base::{Name, Sequence};

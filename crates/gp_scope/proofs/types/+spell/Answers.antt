@@ -6,7 +6,7 @@ use Rattle.gp_types.specs.Types.{Ty, tys_of, fields_of}
 use Rattle.gp_types.specs.Size.{size, total_size, total_field_size}
 use Rattle.gp_types.specs.View.{ty_view, field_view}
 use Rattle.gp_scope.specs.Definitions.{struct_named}
-use Rattle.gp_scope.specs.NamesOf.{AreWhole, whole}
+use Rattle.gp_scope.specs.code.NamesOf.{AreWhole, whole}
 use Rattle.gp_scope.specs.Spelled.{spelled, basic_type, spelled_by, all_spelled_by, fields_spelled_by, spelled_field}
 use Rattle.gp_scope.specs.Tables.{struct_at}
 use Rattle.gp_scope.proofs.SpellLemmas.{spelled-items, spelled-fields, item-size, field-size, part-made, field_view-made, type_expression-Tuple, opened-basic}

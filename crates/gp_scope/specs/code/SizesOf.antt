@@ -4,7 +4,7 @@ use Rattle.gp_tree.specs.Program.{program_items}
 use Rattle.gp_tree.specs.TypeExpression.{TypeExpression}
 use Rattle.gp_types.specs.Size.{size}
 use Rattle.gp_scope.specs.declared.names.Names.{Names}
-use Rattle.gp_scope.specs.Levels.{size_by}
+use Rattle.gp_scope.specs.code.Levels.{size_by}
 use Rattle.gp_scope.specs.Spelled.{spelled}
 use Rattle.gp_scope.specs.Tables.{value_in}
 

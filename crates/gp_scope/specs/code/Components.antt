@@ -3,7 +3,7 @@ use Rattle.std.specs.Prelude.{ℕ, ◌-◌, Bool, true, ◌&&◌, List, Some, No
 use Rattle.std.specs.List.{list_all}
 use Rattle.gp_tree.specs.Program.{ProgramItem}
 use Rattle.gp_scope.specs.Definitions.{struct_named, structs_in}
-use Rattle.gp_scope.specs.EachName.{each_field_name}
+use Rattle.gp_scope.specs.code.EachName.{each_field_name}
 
 -- whether all names that the struct of this name holds have numbers up to the limit
 abbrev pub held_within : List ProgramItem → (numbers : List ℕ → ℕ) → (limit : ℕ) → List ℕ → Bool

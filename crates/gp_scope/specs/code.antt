@@ -3,5 +3,6 @@ pub mod AnnotationView
 pub mod Components
 pub mod EachName
 pub mod Levels
+pub mod NamesAnswer
 pub mod NamesOf
 pub mod SizesOf

@@ -3,7 +3,8 @@
 ghost use Rattle.std.specs.Prelude.{◌≡◌, ℕ, List, IfOk, None, nat_lt};
 ghost use Rattle.std.specs.List.{list_any};
 ghost use Rattle.gp_tree.specs.Program.{program_items};
-ghost use Rattle.gp_scope.specs.Collected.{CollectAnswer, NamesAnswer};
+ghost use Rattle.gp_scope.specs.Collected.{CollectAnswer};
+ghost use Rattle.gp_scope.specs.code.NamesAnswer.{NamesAnswer};
 ghost use Rattle.gp_scope.specs.FirstFault.{CyclesAnswer, names_fault};
 ghost use Rattle.gp_scope.specs.code.Levels.{level_size};
 ghost use Rattle.gp_scope.specs.code.NamesOf.{AreNames, AreWhole};

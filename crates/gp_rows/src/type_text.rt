@@ -16,7 +16,7 @@ pub fn told_type(alloc: Global, ty: &Ty) -> Result<String, AllocError> {
         Ty::Tuple(parts) => {
             let mut told = String::from_str(alloc, "tuple[")?;
             let mut comma = "";
-            for part in parts {
+            for part in parts.iter() {
                 told.push_str(comma)?;
                 told.push_str(told_type(alloc, part)?.as_str())?;
                 comma = ", ";
@@ -43,7 +43,7 @@ pub fn told_struct(alloc: Global, name: &str, ty: Option<&Ty>) -> Result<String,
 fn told_fields(alloc: Global, ty: &Ty) -> Result<String, AllocError> {
     let mut told = String::new(alloc);
     if let Ty::Struct(_, fields) = ty {
-        for field in fields {
+        for field in fields.iter() {
             let ty = told_type(alloc, &field.ty)?;
             told.push_str(format!(in alloc; "{}: {ty}, ", field.name.as_str())?.as_str())?;
         }

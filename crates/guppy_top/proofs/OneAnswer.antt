@@ -163,9 +163,12 @@ only_long_graph text long answer (run.no_graph within why e) = absurd (omega ari
 only_long_graph text long answer (run.not_built g t n) = absurd (omega (arith, t.within))
 only_long_graph text long answer (run.runs g t thin) = absurd (omega (arith, t.within))
 
+same_why : (text : List ℕ) (why other : reading.Refusal) → graph_of text ≡ Err why → graph_of text ≡ Err other → other ≡ why
+same_why text why other e f = cc
+
 only_no_graph : (text : List ℕ) (why : reading.Refusal) → length text ≤ graph_text_limit → graph_of text ≡ Err why → (answer : Answer) → IsDueRun text answer → answer ≡ refused (graph_refusal why)
 only_no_graph text why within e answer (run.too_long long) = absurd (omega arith)
-only_no_graph text why within e answer (run.no_graph l other f) = ap (λ w. refused (graph_refusal w)) (let same : Err {Graph} other ≡ Err why = sym f ∙ e in cc)
+only_no_graph text why within e answer (run.no_graph l other f) = ap (λ w. refused (graph_refusal w)) (same_why text why other e f)
 only_no_graph text why within e answer (run.not_built g t n) = absurd (let f = t.graph in cc)
 only_no_graph text why within e answer (run.runs g t thin) = absurd (let f = t.graph in cc)
 

@@ -1,10 +1,10 @@
 pub mod Call
 pub mod Compile
-pub mod GraphFault
 pub mod Input
-pub mod Made
+pub mod OneAnswer
 pub mod Refusal
 pub mod RunDue
 pub mod Status
 pub mod Words
 pub mod WordsFile
+pub mod code

@@ -4,6 +4,7 @@
 mod compile;
 mod guppy;
 mod input;
+mod laws;
 mod mode_error;
 mod output;
 mod real_files;

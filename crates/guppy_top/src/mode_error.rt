@@ -37,7 +37,7 @@ impl<T: Drop> From<AllocFailed<T>> for ModeError {
 
 impl From<JsonFault> for ModeError {
     ghost use Rattle.std.specs.Prelude.{◌≡◌};
-    ghost use Rattle.guppy_top.specs.GraphFault.{error_of};
+    ghost use Rattle.guppy_top.specs.code.GraphFault.{error_of};
 
     ghost from_gives = { λ fault e. e ≡ error_of fault };
 

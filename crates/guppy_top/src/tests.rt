@@ -144,26 +144,6 @@ fn reports_failed_writing(rt: HostRuntime) -> Result<(), Fail> {
 }
 
 #[test]
-fn keeps_what_fits(rt: HostRuntime) -> Result<(), Fail> {
-    let mut outside = Outside::with_body(rt.alloc(), WHOLE)?;
-    outside.out = MemorySink::new(rt.alloc(), 100)?;
-    assert_eq!(rt; outside.call(rt.alloc(), COMPILE)?, Status::WriteFault);
-    assert_eq!(rt; outside.out.bytes(), &GRAPH[..100]);
-    assert!(rt; outside.err.bytes().is_empty());
-    Ok(())
-}
-
-#[test]
-fn reports_a_failed_refusal(rt: HostRuntime) -> Result<(), Fail> {
-    let mut outside = Outside::holding(rt.alloc(), b"")?;
-    outside.err.fail_at(0)?;
-    assert_eq!(rt; outside.call(rt.alloc(), COMPILE)?, Status::WriteFault);
-    assert!(rt; outside.out.bytes().is_empty());
-    assert!(rt; outside.err.bytes().is_empty());
-    Ok(())
-}
-
-#[test]
 fn refuses_other_words(rt: HostRuntime) -> Result<(), Fail> {
     let cases: [&[&str]; 6] = [
         &[],

@@ -12,6 +12,7 @@ pub mod memory_sink;
 pub mod name;
 pub mod sequence;
 pub mod sink;
+pub mod stack;
 pub mod tag;
 
 pub use event::{End, Event, Events, GateName};
@@ -21,6 +22,7 @@ pub use memory_sink::MemorySink;
 pub use name::{LineNo, Name, Names};
 pub use sequence::{Sequence, TextBytes};
 pub use sink::{Sink, write_all};
+pub use stack::Stack;
 pub use tag::Tag;
 
 #[cfg(test)]

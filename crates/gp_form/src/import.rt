@@ -2,11 +2,11 @@
 
 ghost use Rattle.std.specs.Prelude.{◌≡◌, IfOk};
 ghost use Rattle.gp_form.specs.declared.list_end.ListEnd.TheVariants as until;
-ghost use Rattle.gp_form.specs.FormReading as spec;
+ghost use Rattle.gp_form.specs.code.FormReading as spec;
 ghost use Rattle.gp_form.specs.Forms.{dotted};
-ghost use Rattle.gp_form.specs.Reading.{past_end};
-ghost use Rattle.gp_form.specs.Steps as step;
-ghost use Rattle.gp_form.specs.Steps.{Gives};
+ghost use Rattle.gp_form.specs.code.Reading.{past_end};
+ghost use Rattle.gp_form.specs.code.Steps as step;
+ghost use Rattle.gp_form.specs.code.Steps.{Gives};
 ghost use Rattle.gp_tree.specs.Form.{form};
 
 use crate::list_end::{ListEnd, past_end};
@@ -21,7 +21,7 @@ use gp_tree::{LineForm, Place};
 use std::alloc::{AllocError, Global};
 
 /// What stands behind `@`.
-#[tactic(auto, unfolding(crate::specs::FormReading::decorator))]
+#[tactic(auto, unfolding(crate::specs::code::FormReading::decorator))]
 pub fn decorator(tokens: &[Token]) -> Result<LineForm, PartFault>
     ensures { Gives form result (spec.decorator tokens.now) }
 {
@@ -41,7 +41,7 @@ pub fn decorator(tokens: &[Token]) -> Result<LineForm, PartFault>
 }
 
 /// What stands behind `from`.
-#[tactic(auto, unfolding(crate::specs::FormReading::import_names))]
+#[tactic(auto, unfolding(crate::specs::code::FormReading::import_names))]
 pub fn import_names(alloc: Global, tokens: &[Token]) -> Result<LineForm, PartFault>
     ensures { Gives form result (spec.import_names tokens.now) }
 {
@@ -66,7 +66,7 @@ fn dotted(alloc: Global, path: &Place) -> Result<Name, AllocError>
 }
 
 /// What stands behind `import`.
-#[tactic(auto, unfolding(crate::specs::FormReading::imported))]
+#[tactic(auto, unfolding(crate::specs::code::FormReading::imported))]
 fn imported(alloc: Global, tokens: &[Token]) -> Result<Names, PartFault>
     ensures { Gives (λ x. x) result (spec.imported tokens.now) }
 {

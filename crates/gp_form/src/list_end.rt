@@ -1,8 +1,8 @@
 //! Where a list of expressions ends.
 
 ghost use Rattle.std.specs.Prelude.{◌≡◌};
-ghost use Rattle.gp_form.specs.Reading as spec;
-ghost use Rattle.gp_form.specs.Steps.{Finds};
+ghost use Rattle.gp_form.specs.code.Reading as spec;
+ghost use Rattle.gp_form.specs.code.Steps.{Finds};
 
 use crate::step::past_symbol;
 use gp_lex::{Symbol, Token};
@@ -17,7 +17,7 @@ pub enum ListEnd {
 }
 
 /// The tokens behind the end, where it stands at the front.
-#[tactic(auto, unfolding(crate::specs::Reading::past_end))]
+#[tactic(auto, unfolding(crate::specs::code::Reading::past_end))]
 pub fn past_end(tokens: &[Token], end: ListEnd) -> Option<&[Token]>
     ensures { Finds (λ rest. rest.now) result (spec.past_end end tokens.now) }
 {

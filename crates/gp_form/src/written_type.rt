@@ -4,9 +4,9 @@
 
 ghost use Rattle.std.specs.Prelude.{◌≡◌, map};
 ghost use Rattle.gp_lex.specs.declared.token.Symbol.TheVariants as symbol;
-ghost use Rattle.gp_form.specs.FormReading as spec;
-ghost use Rattle.gp_form.specs.Steps as step;
-ghost use Rattle.gp_form.specs.Steps.{Finds, Gives};
+ghost use Rattle.gp_form.specs.code.FormReading as spec;
+ghost use Rattle.gp_form.specs.code.Steps as step;
+ghost use Rattle.gp_form.specs.code.Steps.{Finds, Gives};
 ghost use Rattle.gp_tree.specs.TypeExpression.{type_expression};
 
 use crate::part_fault::PartFault;
@@ -25,7 +25,7 @@ pub fn type_front(alloc: Global, tokens: &[Token]) -> Result<(TypeExpr, &[Token]
 }
 
 /// The tokens behind the word `tuple` and its bracket.
-#[tactic(auto, unfolding(crate::specs::FormReading::past_tuple))]
+#[tactic(auto, unfolding(crate::specs::code::FormReading::past_tuple))]
 fn past_tuple(tokens: &[Token]) -> Option<&[Token]>
     ensures { Finds (λ rest. rest.now) result (spec.past_tuple tokens.now) }
 {
@@ -46,7 +46,7 @@ fn type_at(alloc: Global, depth: usize, tokens: &[Token]) -> Result<(TypeExpr, &
 
 /// The same, where the depth is that of the types in its brackets.
 #[cycle(types)]
-#[tactic(auto, unfolding(crate::specs::FormReading::type_with))]
+#[tactic(auto, unfolding(crate::specs::code::FormReading::type_with))]
 fn type_with(
     alloc: Global,
     depth: usize,

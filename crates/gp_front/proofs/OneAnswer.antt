@@ -11,12 +11,12 @@ use Rattle.gp_form.specs.Forms.{SpellsForm}
 use Rattle.gp_tree.specs.declared.program.Item.{Item}
 use Rattle.gp_tree.specs.Form.{Form}
 use Rattle.gp_tree.specs.Program.{ProgramItem, StructDefinition, program_items}
-use Rattle.gp_nest.specs.declared.parse_fault.ParseFault.{ParseFault}
-use Rattle.gp_nest.specs.declared.parse_fault.ParseFault.TheVariants as parse
-use Rattle.gp_nest.specs.FirstFault.{Fault, nesting, too_deep}
-use Rattle.gp_nest.specs.Nesting.{Line}
-use Rattle.gp_nest.specs.Nested.{IsProgramOf, IsFaultOf}
-use Rattle.gp_nest.specs.Programs.{IsFormLine, AreFormLines, HaveForms, IsRefused, IsTooBigAt, IsNoLineAt, IsProgram}
+use Rattle.gp_parse.specs.declared.parse_fault.ParseFault.{ParseFault}
+use Rattle.gp_parse.specs.declared.parse_fault.ParseFault.TheVariants as parse
+use Rattle.gp_parse.specs.FirstFault.{Fault, nesting, too_deep}
+use Rattle.gp_parse.specs.Nesting.{Line}
+use Rattle.gp_parse.specs.Nested.{IsProgramOf, IsFaultOf}
+use Rattle.gp_parse.specs.Programs.{IsFormLine, AreFormLines, HaveForms, IsRefused, IsTooBigAt, IsNoLineAt, IsProgram}
 use Rattle.gp_scope.specs.declared.fault.ScopeFault.{ScopeFault}
 use Rattle.gp_scope.specs.declared.fault.ScopeFault.TheVariants as scope
 use Rattle.gp_scope.specs.declared.scope.Scope.{Scope}

@@ -2,7 +2,7 @@
 use Rattle.std.specs.Prelude.{◌≡◌, ◌≢◌, ℕ, List, Ok, Err}
 use Rattle.gp_lex.specs.declared.fault.LexFault.TheVariants as lex
 use Rattle.gp_tree.specs.Program.{program_items}
-use Rattle.gp_nest.specs.declared.parse_fault.ParseFault.TheVariants as parse
+use Rattle.gp_parse.specs.declared.parse_fault.ParseFault.TheVariants as parse
 use Rattle.gp_scope.specs.declared.fault.ScopeFault.TheVariants as scope
 use Rattle.gp_typing.specs.declared.fault.TypeFault.TheVariants as type
 use Rattle.gp_typing.specs.TypedView.{typed_view}

@@ -5,7 +5,7 @@ ghost use Rattle.gp_front.specs.Checked.{IsChecked};
 
 use crate::fault::TextFault;
 use gp_lex::lines;
-use gp_nest::program;
+use gp_parse::program;
 use gp_scope::{Scope, collect};
 use gp_tree::Program;
 use gp_typing::{Typed, check};

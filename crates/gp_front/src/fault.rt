@@ -1,7 +1,7 @@
 //! Why a text isn't a program of well-typed functions.
 
 use gp_lex::LexFault;
-use gp_nest::ParseFault;
+use gp_parse::ParseFault;
 use gp_scope::ScopeFault;
 use gp_typing::TypeFault;
 

@@ -5,8 +5,8 @@ ghost use Rattle.gp_lex.specs.Chars.{line_feeds};
 ghost use Rattle.gp_lex.specs.Pieces.{behind, indent_of, line_no};
 ghost use Rattle.gp_lex.specs.Lines as spec;
 ghost use Rattle.gp_lex.specs.Lines.{IsLexed, begun_behind, ended_by, finished};
-ghost use Rattle.gp_lex.specs.Reading as reading;
-ghost use Rattle.gp_lex.specs.Reading.{Gives};
+ghost use Rattle.gp_lex.specs.code.Reading as reading;
+ghost use Rattle.gp_lex.specs.code.Reading.{Gives};
 
 use crate::context::{Context, PieceKind};
 use crate::fault::LexFault;
@@ -60,7 +60,7 @@ fn pass_line_end(
     ensures found { OnOk result (found.new ≡ found.old ++ ended_by at.old begun PieceKind.LineEnd) }
 {
     at.pass_line_end();
-    if at.brackets.innermost().is_some() {
+    if at.brackets.top().is_some() {
         return Ok(begun);
     }
     finish(found, begun)?;
@@ -119,7 +119,7 @@ fn pass(
 fn at_end(at: &Context, mut found: Lines, begun: Option<LogicalLine>) -> Result<Lines, LexFault>
     ensures { Gives (λ ls. ls) result (reading.with_lines found at.now begun (reading.at_end at.now.brackets)) }
 {
-    match at.brackets.innermost() {
+    match at.brackets.top() {
         Some(bracket) => Err(LexFault::Unclosed(bracket.line)),
         None => {
             finish(&mut found, begun)?;

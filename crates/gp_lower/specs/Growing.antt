@@ -1,6 +1,6 @@
 -- The graph of a thin text while it grows.
 use Rattle.std.specs.Prelude.{List, [], ◌∷◌, length, map, codes}
-use Rattle.gp_parse.specs.declared.thin_text.ThinLine.{ThinLine}
+use Rattle.gp_lower.specs.declared.thin_text.ThinLine.{ThinLine}
 use Rattle.hg_ops.specs.Op as op
 use Rattle.hg_graph.specs.Graph.{Graph}
 use Rattle.hg_graph.specs.Thin.{in_main, chain}

@@ -11,8 +11,8 @@ ghost use Rattle.hg_graph.specs.Thin.{ThinGate, in_main, thin_graph};
 #[cfg(test)]
 mod tests;
 
+use crate::thin_text::{ThinLine, ThinLines};
 use gp_base::Name;
-use gp_parse::{ThinLine, ThinLines};
 use hg_graph::{Graph, NodeId, Port};
 use hg_ops::{OpKind, Row};
 use std::alloc::{AllocError, Global};

@@ -2,8 +2,8 @@
 use Rattle.std.proofs.Common.{◌≡◌, ℕ, suc, ◌+◌, List, [], ◌∷◌, ◌++◌, length, Some, None, refl, sym, ap, ◌∙◌, arith, length-append}
 use Rattle.std.specs.List.{position_from, position}
 use Rattle.std.proofs.lemmas.Iterator.Adapters.{position_from-zero}
-use Rattle.gp_parse.specs.declared.thin_text.ThinLine.{ThinLine}
-use Rattle.gp_parse.specs.declared.thin_text.ThinLine.TheVariants as line
+use Rattle.gp_lower.specs.declared.thin_text.ThinLine.{ThinLine}
+use Rattle.gp_lower.specs.declared.thin_text.ThinLine.TheVariants as line
 use Rattle.hg_graph.specs.Thin.{ThinGate, H, X}
 use Rattle.gp_lower.specs.Thin.{gate_lines, complete_lines, AreComplete}
 use Rattle.guppy_top.specs.Compile.{is_discard, spent_lines}

@@ -2,10 +2,10 @@
 use Rattle.std.proofs.Common.{◌≡◌, ℕ, ◌+◌, ◌<◌, ◌≤◌, List, [], ◌∷◌, length, Result, refl, sym, ap, ◌∙◌, arith, length-append, lit<}
 use Rattle.std.specs.Prelude.{Vec}
 use Rattle.std.specs.declared.alloc.Global.{Global}
-use Rattle.gp_parse.specs.declared.thin_text.ThinLine.{ThinLine}
-use Rattle.gp_parse.specs.declared.thin_text.ThinLine.TheVariants as line
-use Rattle.gp_parse.specs.Thin.{line_text, lines_text, thin_head, thin_text}
-use Rattle.gp_parse.proofs.ThinLemmas.{one_reading}
+use Rattle.gp_lower.specs.declared.thin_text.ThinLine.{ThinLine}
+use Rattle.gp_lower.specs.declared.thin_text.ThinLine.TheVariants as line
+use Rattle.gp_lower.specs.ThinText.{line_text, lines_text, thin_head, thin_text}
+use Rattle.gp_lower.proofs.ThinLemmas.{one_reading}
 use Rattle.hg_graph.specs.Thin.{ThinGate, thin_graph}
 use Rattle.gp_lower.specs.Thin.{gate_lines, complete_lines}
 use Rattle.guppy_top.specs.declared.mode_error.ModeError.{ModeError}

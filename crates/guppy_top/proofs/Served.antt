@@ -6,7 +6,7 @@ use Rattle.std.proofs.lemmas.List.Elements.{All-nil, All-cons}
 use Rattle.hg_ops.specs.Op as op
 use Rattle.hg_graph.specs.Graph.{Node, Graph}
 use Rattle.hg_graph.specs.Thin.{ThinGate, H, X, gate_op, in_main, thin_graph}
-use Rattle.gp_parse.specs.declared.thin_text.ThinLine.{ThinLine}
+use Rattle.gp_lower.specs.declared.thin_text.ThinLine.{ThinLine}
 use Rattle.gp_lower.specs.Thin.{AreComplete, complete_lines}
 use Rattle.hg_json.specs.GraphText.{IsServed, AreServed}
 

@@ -1,8 +1,8 @@
 -- What `compile` answers.
 use Rattle.std.specs.Prelude.{◌≡◌, ◌≢◌, ℕ, ◌+◌, ◌<◌, ◌≤◌, Bool, true, false, List, ◌∷◌, ◌++◌, length}
-use Rattle.gp_parse.specs.declared.thin_text.ThinLine.{ThinLine}
-use Rattle.gp_parse.specs.declared.thin_text.ThinLine.TheVariants.{H, X, Discard}
-use Rattle.gp_parse.specs.Thin.{thin_text}
+use Rattle.gp_lower.specs.declared.thin_text.ThinLine.{ThinLine}
+use Rattle.gp_lower.specs.declared.thin_text.ThinLine.TheVariants.{H, X, Discard}
+use Rattle.gp_lower.specs.ThinText.{thin_text}
 use Rattle.hg_graph.specs.Graph.{Graph}
 use Rattle.hg_graph.specs.Rules.{InputsLinkedOnce, LinearOutputsLinkedOnce}
 use Rattle.hg_graph.specs.Thin.{ThinGate, thin_graph}

@@ -1,7 +1,7 @@
 //! The mode `compile`: from a source text to the text of its graph.
 
 ghost use Rattle.std.specs.Prelude.{◌≡◌, ◌+◌, ◌≤◌, List, length, position, None, Some, IfNone, IfSome};
-ghost use Rattle.gp_parse.specs.declared.thin_text.ThinLine.{ThinLine};
+ghost use Rattle.gp_lower.specs.declared.thin_text.ThinLine.{ThinLine};
 ghost use Rattle.hg_graph.specs.Thin.{ThinGate, thin_graph};
 ghost use Rattle.gp_lower.specs.Thin.{AreComplete, gate_lines, complete_lines};
 ghost use Rattle.guppy_top.specs.Call.{Answer, refused, done};
@@ -14,8 +14,7 @@ use crate::mode_error::ModeError;
 use crate::refusal::{Refusal, SourceFault};
 use crate::status::Status;
 use gp_base::LineNo;
-use gp_lower::lower_thin;
-use gp_parse::{ThinLine, ThinLines, thin};
+use gp_lower::{ThinLine, ThinLines, lower_thin, thin};
 use hg_json::write;
 use std::alloc::Global;
 

@@ -2,7 +2,7 @@
 
 ghost use Rattle.std.specs.Prelude.{◌≡◌, ◌≢◌, ◌⊎◌, ◌+◌, ◌<◌, ◌≤◌, ℕ, List, [], length, None};
 ghost use Rattle.gp_base.specs.Outside.{Rose, IsMissing, Wrote};
-ghost use Rattle.gp_parse.specs.declared.thin_text.ThinLine.{ThinLine};
+ghost use Rattle.gp_lower.specs.declared.thin_text.ThinLine.{ThinLine};
 ghost use Rattle.hg_graph.specs.Graph.{Graph};
 ghost use Rattle.hg_graph.specs.Thin.{ThinGate};
 ghost use Rattle.gp_lower.specs.Thin.{gate_lines, complete_lines};

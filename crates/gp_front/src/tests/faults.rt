@@ -3,7 +3,7 @@
 use crate::fault::TextFault;
 use gp_base::LineNo;
 use gp_lex::LexFault;
-use gp_nest::ParseFault;
+use gp_parse::ParseFault;
 use gp_scope::ScopeFault;
 use gp_typing::TypeFault;
 

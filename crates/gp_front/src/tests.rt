@@ -1,12 +1,29 @@
-//! Tables of source texts, each with the fault that the rules give it.
+//! Each public call once. What the phases say of texts is in the tables of `gp_rows`.
 
-mod expressions;
-mod faults;
-mod functions;
-mod loops;
-mod names;
-mod order_of_phases;
-mod passing;
-mod sizes;
-mod statements;
-mod texts;
+use crate::checked::check_text;
+use crate::fault::TextFault;
+use crate::laws::one_answer;
+use gp_base::LineNo;
+use gp_lex::LexFault;
+use std::test::Fail;
+
+#[test]
+fn a_text_has_its_program(rt: HostRuntime) -> Result<(), Fail> {
+    let text = b"from guppylang import guppy\n@guppy\ndef main() -> None: pass\n";
+    let checked = check_text(rt.alloc(), text).ok().ok_or("a fault")?;
+    assert_eq!(rt; checked.program.len(), 2);
+    assert!(rt; checked.scope.imports("guppy"));
+    assert_eq!(rt; checked.typed.len(), 1);
+    Ok(())
+}
+
+#[test]
+fn a_text_has_its_first_fault(rt: HostRuntime) {
+    let found = check_text(rt.alloc(), b"\tpass\n").err();
+    assert!(rt; matches!(found, Some(TextFault::Lex(LexFault::TabIndent(LineNo(1))))));
+}
+
+#[test]
+fn the_law_can_be_called() {
+    one_answer();
+}

@@ -13,8 +13,6 @@ pub mod modules;
 mod names;
 mod parts;
 mod phase;
-#[cfg(test)]
-mod programs;
 pub mod scope;
 mod sizes;
 mod tables;

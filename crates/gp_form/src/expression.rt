@@ -16,7 +16,7 @@ use crate::place::path_from;
 use crate::step::{past_symbol, past_word};
 use gp_base::Name;
 use gp_lex::{Keyword, Symbol, Token};
-use gp_tree::{Expr, Exprs, copy_name, copy_text};
+use gp_tree::{Expr, Exprs, copy_text};
 use std::alloc::Global;
 
 /// The expression at the front, and the tokens behind it.
@@ -191,7 +191,7 @@ fn named<'t>(
         let (place, rest) = path_from(alloc, name, tokens)?;
         return Ok((Expr::Place(place), rest));
     };
-    let called = copy_name(alloc, name)?;
+    let called = name.copy()?;
     let (arguments, rest) = items(alloc, depth, ListEnd::Paren, Exprs::new(alloc), after)?;
     Ok((Expr::Call(called, arguments), rest))
 }

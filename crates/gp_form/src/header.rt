@@ -16,7 +16,6 @@ use crate::soft_keyword::past_soft_word;
 use crate::statement::{alone, simple};
 use crate::step::{past_name, past_symbol, past_word};
 use crate::written_type::type_front;
-use gp_base::Name;
 use gp_lex::{Keyword, Symbol, Token};
 use gp_tree::{Expr, LineForm, TypeExpr};
 use std::alloc::Global;
@@ -61,7 +60,7 @@ pub fn def_header(alloc: Global, tokens: &[Token]) -> Result<LineForm, PartFault
     let Some(rest) = past_symbol(rest, Symbol::LeftParen) else {
         return Err(PartFault::NotSpelled);
     };
-    let name = Name::new(alloc, name.as_str())?;
+    let name = name.copy()?;
     let (found, rest) = params(alloc, rest)?;
     let (ty, rest) = result_type(alloc, rest)?;
     let body = body(alloc, rest)?;
@@ -70,7 +69,7 @@ pub fn def_header(alloc: Global, tokens: &[Token]) -> Result<LineForm, PartFault
 
 /// What stands behind `class`.
 #[tactic(auto, unfolding(crate::specs::FormReading::class_header))]
-pub fn class_header(alloc: Global, tokens: &[Token]) -> Result<LineForm, PartFault>
+pub fn class_header(tokens: &[Token]) -> Result<LineForm, PartFault>
     ensures { Gives form result (spec.class_header tokens.now) }
 {
     let Some((name, rest)) = past_name(tokens) else {
@@ -79,7 +78,7 @@ pub fn class_header(alloc: Global, tokens: &[Token]) -> Result<LineForm, PartFau
     let Some(rest) = past_symbol(rest, Symbol::Colon) else {
         return Err(PartFault::NotSpelled);
     };
-    let name = Name::new(alloc, name.as_str())?;
+    let name = name.copy()?;
     alone(LineForm::Class(name), rest)
 }
 
@@ -157,7 +156,7 @@ pub fn for_header(alloc: Global, tokens: &[Token]) -> Result<LineForm, PartFault
     let Some(rest) = past_range(rest) else {
         return Err(PartFault::NotSpelled);
     };
-    let name = Name::new(alloc, name.as_str())?;
+    let name = name.copy()?;
     let (count, rest) = expression_front(alloc, rest)?;
     let Some(rest) = past_symbol(maybe_comma(rest), Symbol::RightParen) else {
         return Err(PartFault::NotSpelled);

@@ -88,13 +88,13 @@ fn some_names(names: Names, rest: &[Token]) -> Result<Names, PartFault>
 }
 
 /// The name at the front, and the tokens behind it.
-fn name_front(alloc: Global, tokens: &[Token]) -> Result<(Name, &[Token]), PartFault>
+fn name_front(tokens: &[Token]) -> Result<(Name, &[Token]), PartFault>
     ensures { Gives (λ x. (x.0, x.1.now)) result (step.past_name tokens.now) }
 {
     let Some((name, rest)) = past_name(tokens) else {
         return Err(PartFault::NotSpelled);
     };
-    Ok((Name::new(alloc, name.as_str())?, rest))
+    Ok((name.copy()?, rest))
 }
 
 /// Names with commas between them, up to the end of the tokens.
@@ -104,7 +104,7 @@ fn bare_names(alloc: Global, tokens: &[Token]) -> Result<Names, PartFault>
     let mut found = Names::new(alloc);
     let mut rest = tokens;
     for _turn in 0..tokens.len() {
-        let (item, next) = name_front(alloc, rest)?;
+        let (item, next) = name_front(rest)?;
         found.push(item)?;
         if past_end(next, ListEnd::Line).is_some() {
             return Ok(found);
@@ -127,7 +127,7 @@ fn names_inside(alloc: Global, tokens: &[Token]) -> Result<(Names, &[Token]), Pa
         if let Some(after) = past_end(rest, ListEnd::Paren) {
             return Ok((found, after));
         }
-        let (item, next) = name_front(alloc, rest)?;
+        let (item, next) = name_front(rest)?;
         found.push(item)?;
         if let Some(after) = past_end(next, ListEnd::Paren) {
             return Ok((found, after));

@@ -74,7 +74,7 @@ fn led(
 {
     match word {
         Keyword::DefWord => def_header(alloc, rest),
-        Keyword::ClassWord => class_header(alloc, rest),
+        Keyword::ClassWord => class_header(rest),
         Keyword::IfWord => if_header(alloc, rest),
         Keyword::ElifWord => elif_header(alloc, rest),
         Keyword::WhileWord => while_header(alloc, rest),

@@ -12,7 +12,6 @@ use crate::part_fault::PartFault;
 use crate::soft_keyword::past_soft_word;
 use crate::step::{past_name, past_symbol};
 use crate::written_type::type_front;
-use gp_base::Name;
 use gp_lex::{Symbol, Token};
 use gp_tree::{Param, Params};
 use std::alloc::Global;
@@ -44,7 +43,7 @@ fn param(alloc: Global, tokens: &[Token]) -> Result<(Param, &[Token]), PartFault
     let Some((owned, rest)) = owned_mark(rest) else {
         return Err(PartFault::NotSpelled);
     };
-    let name = Name::new(alloc, name.as_str())?;
+    let name = name.copy()?;
     Ok((Param { name, ty, owned }, rest))
 }
 

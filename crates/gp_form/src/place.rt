@@ -8,7 +8,7 @@ use crate::part_fault::PartFault;
 use crate::step::{past_name, past_symbol};
 use gp_base::{Name, Names};
 use gp_lex::{Symbol, Token};
-use gp_tree::{Place, copy_name};
+use gp_tree::Place;
 use std::alloc::Global;
 
 /// The place at the front, and the tokens behind it.
@@ -31,7 +31,7 @@ pub fn path_from<'t>(
 ) -> Result<(Place, &'t [Token]), PartFault>
     ensures { Gives (λ x. (x.0, x.1.now)) result (spec.path_from name.now tokens.now) }
 {
-    let name = copy_name(alloc, name)?;
+    let name = name.copy()?;
     let (fields, rest) = fields_from(alloc, tokens)?;
     Ok((Place { name, fields }, rest))
 }
@@ -49,7 +49,7 @@ fn fields_from(alloc: Global, tokens: &[Token]) -> Result<(Names, &[Token]), Par
         let Some((field, after)) = past_name(after) else {
             return Err(PartFault::NotSpelled);
         };
-        fields.push(copy_name(alloc, field)?)?;
+        fields.push(field.copy()?)?;
         rest = after;
     }
     Ok((fields, rest))

@@ -104,7 +104,7 @@ fn past_declared(tokens: &[Token]) -> Option<(&Name, &[Token])>
 fn declaration(alloc: Global, name: &Name, tokens: &[Token]) -> Result<LineForm, PartFault>
     ensures { Gives form result (spec.declaration name.now tokens.now) }
 {
-    let name = Name::new(alloc, name.as_str())?;
+    let name = name.copy()?;
     let (ty, rest) = type_front(alloc, tokens)?;
     if past_end(rest, ListEnd::Line).is_some() {
         return Ok(LineForm::Field(name, ty));
@@ -157,7 +157,7 @@ fn evaluated(alloc: Global, tokens: &[Token]) -> Result<LineForm, PartFault>
     ensures { Gives form result (spec.evaluated tokens.now) }
 {
     if let Some(name) = module_call(tokens) {
-        return Ok(LineForm::ModuleCall(Name::new(alloc, name.as_str())?));
+        return Ok(LineForm::ModuleCall(name.copy()?));
     }
     if docstring(tokens).is_some() {
         return Ok(LineForm::Docstring);

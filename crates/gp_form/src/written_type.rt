@@ -12,7 +12,6 @@ ghost use Rattle.gp_tree.specs.TypeExpression.{type_expression};
 use crate::part_fault::PartFault;
 use crate::soft_keyword::past_soft_word;
 use crate::step::{past_name, past_symbol};
-use gp_base::Name;
 use gp_lex::{Symbol, Token};
 use gp_tree::{TypeExpr, TypeExprs};
 use std::alloc::Global;
@@ -55,7 +54,7 @@ fn type_with(
     ensures { Gives (λ x. (type_expression x.0, x.1.now)) result (spec.type_with (spec.type_at depth) tokens.now) }
 {
     let Some(inside) = past_tuple(tokens) else {
-        return named(alloc, tokens);
+        return named(tokens);
     };
     let (parts, rest) = types(alloc, depth, inside)?;
     match tuple(parts) {
@@ -75,13 +74,13 @@ fn tuple(parts: TypeExprs) -> Option<TypeExpr>
 }
 
 /// A type that is a name.
-fn named(alloc: Global, tokens: &[Token]) -> Result<(TypeExpr, &[Token]), PartFault>
+fn named(tokens: &[Token]) -> Result<(TypeExpr, &[Token]), PartFault>
     ensures { Gives (λ x. (type_expression x.0, x.1.now)) result (spec.a_named_type tokens.now) }
 {
     let Some((name, rest)) = past_name(tokens) else {
         return Err(PartFault::NotSpelled);
     };
-    let name = Name::new(alloc, name.as_str())?;
+    let name = name.copy()?;
     Ok((TypeExpr::Named(name), rest))
 }
 

@@ -14,15 +14,14 @@ pub fn told_type(alloc: Global, ty: &Ty) -> Result<String, AllocError> {
         Ty::Qubit => format!(in alloc; "qubit"),
         Ty::Struct(name, _) => format!(in alloc; "{}", name.as_str()),
         Ty::Tuple(parts) => {
-            let mut told = String::from_str(alloc, "tuple[")?;
-            let mut comma = "";
+            let mut told = String::new(alloc);
             for part in parts.iter() {
-                told.push_str(comma)?;
+                if !told.is_empty() {
+                    told.push_str(", ")?;
+                }
                 told.push_str(told_type(alloc, part)?.as_str())?;
-                comma = ", ";
             }
-            told.push_str("]")?;
-            Ok(told)
+            format!(in alloc; "tuple[{told}]")
         }
     }
 }

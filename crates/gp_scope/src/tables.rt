@@ -31,7 +31,7 @@ pub fn struct_types(alloc: Global, names: &Names) -> Result<IndexMap<String, Ty>
             Item::Import(_) => {}
             Item::Function(_) => {}
             Item::Struct(decl) => {
-                let ty = spell_name(alloc, names, decl.name.as_str())?;
+                let ty = spell_name(alloc, names, &decl.name)?;
                 keep_first(alloc, &mut table, decl.name.as_str(), ty)?;
             }
         }

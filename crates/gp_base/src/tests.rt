@@ -1,13 +1,15 @@
-use crate::event::{End, Event, Events, GateName};
+use crate::event::{End, Event, GateName};
 use crate::event_text::{end_text, event_text};
 use crate::files::{Failed, Files};
 use crate::laws::{live_below_next, trace_is_lines, worlds_stay_clean};
 use crate::memory_files::MemoryFiles;
 use crate::memory_sink::MemorySink;
 use crate::name::{LineNo, Name, Names};
-use crate::sequence::{Sequence, TextBytes};
+use crate::sequence::Sequence;
 use crate::sink::Sink;
+use crate::stack::Stack;
 use crate::tag::Tag;
+use std::process::Abort;
 use std::test::Fail;
 
 #[test]
@@ -17,15 +19,6 @@ fn tags_have_1_to_255_bytes(rt: HostRuntime) -> Result<(), Fail> {
         assert!(rt; len <= letters.len());
         let tag = Tag::new(rt.alloc(), &letters[..len])?;
         assert_eq!(rt; tag.is_some(), is_tag, "at length {len}");
-    }
-    Ok(())
-}
-
-#[test]
-fn tags_have_printable_bytes(rt: HostRuntime) -> Result<(), Fail> {
-    for (byte, is_tag) in [(31, false), (32, true), (126, true), (127, false)] {
-        let tag = Tag::new(rt.alloc(), &[byte])?;
-        assert_eq!(rt; tag.is_some(), is_tag, "at byte {byte}");
     }
     Ok(())
 }
@@ -50,6 +43,19 @@ fn names_are_listed(rt: HostRuntime) -> Result<(), Fail> {
     live_below_next();
     worlds_stay_clean();
     trace_is_lines();
+    Ok(())
+}
+
+#[test]
+fn stacks_give_the_last_item_first(rt: HostRuntime) -> Result<(), Fail> {
+    let mut stack = Stack::new(rt.alloc());
+    for item in [1u8, 2, 3] {
+        stack.push(item)?;
+    }
+    stack.take_back();
+    assert_eq!(rt; stack.top(), Some(2));
+    assert_eq!(rt; stack.pop(), Some(2));
+    assert!(rt; !stack.is_empty());
     Ok(())
 }
 
@@ -104,52 +110,6 @@ fn sinks_fill_up(rt: HostRuntime) -> Result<(), Fail> {
 }
 
 #[test]
-fn events_have_lines(rt: HostRuntime) -> Result<(), Fail> {
-    let tag = Tag::new(rt.alloc(), b"c 0")?.ok_or("no tag")?;
-    for (event, line) in [
-        (Event::Alloc(0), "alloc 0\n"),
-        (
-            Event::Free(18446744073709551615),
-            "free 18446744073709551615\n",
-        ),
-        (Event::MeasureFree(7, true), "measure_free 7 1\n"),
-        (Event::Measure(10, false), "measure 10 0\n"),
-        (Event::Reset(3), "reset 3\n"),
-        (Event::Gate1(GateName::H, 4), "h 4\n"),
-        (Event::Gate2(GateName::Cx, 1, 2), "cx 1 2\n"),
-        (Event::Gate3(GateName::Toffoli, 2, 0, 1), "toffoli 2 0 1\n"),
-        (Event::Rotation(GateName::Rz, 5, -16384), "rz 5 -16384\n"),
-        (Event::ResultBool(tag, true), "result c 0 True\n"),
-    ] {
-        let mut buf = [b'#'; 320];
-        let len = event_text(&event, &mut buf);
-        assert_eq!(rt; &buf[..len], line.as_bytes(), "for {line}");
-    }
-    Ok(())
-}
-
-#[test]
-fn gates_have_names(rt: HostRuntime) {
-    for (gate, line) in [
-        (GateName::X, "x 0\n"),
-        (GateName::Y, "y 0\n"),
-        (GateName::Z, "z 0\n"),
-        (GateName::S, "s 0\n"),
-        (GateName::Sdg, "sdg 0\n"),
-        (GateName::T, "t 0\n"),
-        (GateName::Tdg, "tdg 0\n"),
-        (GateName::Cy, "cy 0\n"),
-        (GateName::Cz, "cz 0\n"),
-        (GateName::Rx, "rx 0\n"),
-        (GateName::Ry, "ry 0\n"),
-    ] {
-        let mut buf = [b'#'; 320];
-        let len = event_text(&Event::Gate1(gate, 0), &mut buf);
-        assert_eq!(rt; &buf[..len], line.as_bytes(), "for {line}");
-    }
-}
-
-#[test]
 fn the_longest_line_fits(rt: HostRuntime) -> Result<(), Fail> {
     let tag = Tag::new(rt.alloc(), &[b'a'; 255])?.ok_or("no tag")?;
     let mut buf = [b'#'; 320];
@@ -159,6 +119,24 @@ fn the_longest_line_fits(rt: HostRuntime) -> Result<(), Fail> {
     assert_eq!(rt; &buf[7..262], [b'a'; 255].as_slice());
     assert_eq!(rt; &buf[262..284], b" -9223372036854775808\n".as_slice());
     Ok(())
+}
+
+// The line of an event on one qubit, in a buffer.
+fn expect_line(rt: &impl Abort, event: &Event, line: &str) {
+    let mut buf = [b'#'; 320];
+    let len = event_text(event, &mut buf);
+    assert_eq!(rt; &buf[..len], line.as_bytes(), "for {line}");
+}
+
+#[test]
+fn events_have_lines(rt: HostRuntime) {
+    expect_line(&rt, &Event::MeasureFree(7, true), "measure_free 7 1\n");
+    expect_line(&rt, &Event::Gate2(GateName::Cx, 1, 2), "cx 1 2\n");
+    expect_line(
+        &rt,
+        &Event::Rotation(GateName::Rz, 5, -16384),
+        "rz 5 -16384\n",
+    );
 }
 
 #[test]
@@ -171,15 +149,4 @@ fn ends_have_texts(rt: HostRuntime) {
     ] {
         assert_eq!(rt; end_text(end), text);
     }
-}
-
-#[test]
-fn events_and_bytes_are_listed(rt: HostRuntime) -> Result<(), Fail> {
-    let mut events = Events::new(rt.alloc());
-    events.push(Event::Alloc(0))?;
-    assert_eq!(rt; events.len(), 1);
-    let mut bytes = TextBytes::new(rt.alloc());
-    bytes.push(b'h')?;
-    assert_eq!(rt; bytes.as_slice(), b"h".as_slice());
-    Ok(())
 }

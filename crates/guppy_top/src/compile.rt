@@ -14,7 +14,8 @@ use crate::mode_error::ModeError;
 use crate::refusal::{Refusal, SourceFault};
 use crate::status::Status;
 use gp_base::LineNo;
-use gp_lower::{ThinLine, ThinLines, lower_thin, thin};
+use gp_lower::thin_text::thin;
+use gp_lower::{ThinLine, ThinLines, lower_thin};
 use hg_json::write;
 use std::alloc::Global;
 

@@ -13,14 +13,9 @@ ghost use Rattle.guppy_top.specs.code.Made.{Makes, RefusesInput};
 use crate::mode_error::ModeError;
 use crate::refusal::{Refusal, SourceFault};
 use crate::status::Status;
-<<<<<<< ours
 use gp_base::{LineNo, SOURCE_LIMIT};
-use gp_lower::{ThinLine, ThinLines, lower_thin, thin};
-=======
-use gp_base::LineNo;
 use gp_lower::thin_text::thin;
 use gp_lower::{ThinLine, ThinLines, lower_thin};
->>>>>>> theirs
 use hg_json::write;
 use std::alloc::Global;
 

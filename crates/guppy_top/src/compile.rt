@@ -8,7 +8,7 @@ ghost use Rattle.guppy_top.specs.Call.{Answer, refused, done};
 ghost use Rattle.guppy_top.specs.Compile.{is_discard, spent_lines, given_up_at, held_at_return_at, IsDue};
 ghost use Rattle.hg_json.specs.GraphText.{json};
 ghost use Rattle.guppy_top.specs.Refusal.{status_of};
-ghost use Rattle.guppy_top.specs.code.Made.{Makes, RefusesInput};
+ghost use Rattle.guppy_top.specs.Made.{Makes, RefusesInput};
 
 use crate::mode_error::ModeError;
 use crate::refusal::{Refusal, SourceFault};

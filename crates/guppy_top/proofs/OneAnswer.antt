@@ -2,10 +2,10 @@
 use Rattle.std.proofs.Common.{◌≡◌, ◌≢◌, ◌⊎◌, inl, inr, ℕ, zero, suc, ◌+◌, ◌<◌, ◌≤◌, List, [], ◌∷◌, ◌++◌, length, map, Result, Ok, Err, refl, sym, ap, ap₂, subst, ◌∙◌, arith, append_assoc, append-nil}
 use Rattle.std.proofs.lemmas.Bool.{cases_eq, cases_lt}
 use Rattle.std.proofs.lemmas.List.{map-append}
-use Rattle.gp_parse.specs.declared.thin_text.ThinLine.{ThinLine}
-use Rattle.gp_parse.specs.declared.thin_text.ThinLine.TheVariants as line
-use Rattle.gp_parse.specs.Thin.{line_text, lines_text, thin_head, thin_text}
-use Rattle.gp_parse.proofs.ThinLemmas.{one_reading, not_thin}
+use Rattle.gp_lower.specs.declared.thin_text.ThinLine.{ThinLine}
+use Rattle.gp_lower.specs.declared.thin_text.ThinLine.TheVariants as line
+use Rattle.gp_lower.specs.ThinText.{line_text, lines_text, thin_head, thin_text}
+use Rattle.gp_lower.proofs.ThinLemmas.{one_reading, not_thin}
 use Rattle.hg_graph.specs.Graph.{Graph}
 use Rattle.hg_graph.specs.Thin.{ThinGate, H, X, thin_graph}
 use Rattle.gp_lower.specs.Thin.{gate_line, gate_lines}

@@ -5,6 +5,7 @@
     bench/believed.py gp_parse Programs.IsProgram  what a definition of the crate's specs/ draws in
     bench/believed.py --check [CRATE..]            no contract of a public function, and no definition outside
                                                    specs/code/, draws in one that stands there
+    bench/believed.py --table                      the rows of the table in docs/PROMISES.md
 
 For each file it prints how many lines the definitions have that are drawn in, with their comments; then the lines of
 all files that these files' `use` lines lead to; and last the types in src/ that are spoken of. Only specs/ folders of
@@ -231,8 +232,38 @@ def check(crates):
     sys.exit(bad > 0)
 
 
+# The calls whose contracts carry the promises of docs/PROMISES.md.
+PROMISES = """
+guppy_top guppy, guppy_top texts_have_one_answer, guppy_top graph_texts_have_one_answer, gp_base write_all,
+gp_base worlds_stay_clean, gp_lower thin, gp_lower lower_thin, gp_lex lines, gp_form line_form, gp_parse program,
+gp_types is_linear, gp_types size, gp_types leaf_count, gp_types builtin, gp_scope collect, gp_locals locals_of,
+gp_locals find_callee, gp_locals is_tag, gp_typing check, gp_meaning every_level_is_enough, gp_front check_text,
+gp_front one_answer, hg_ops signature, hg_ops op_of_name, hg_ops is_effect, hg_graph feeder, walks first_back,
+walks longest_chains, hg_valid validate, hg_valid is_ordered, hg_json write, hg_json read, hg_run run_thin
+"""
+
+
+def table():
+    """Prints, for each call that carries a promise, what its contract draws in, as the rows of a table."""
+    for crate, name in (words.split() for words in PROMISES.split(",")):
+        lines = drawn_in(cited_by(crate, name))[0]
+        files = collections.defaultdict(list)
+        for other, module in sorted(lines):
+            files[other].append(module)
+        shown = "; ".join(f"`{other}`: {', '.join(modules)}" for other, modules in files.items())
+        print(f"| `{name}` of `{crate}` | {sum(map(len, lines.values()))} | {shown} |")
+
+
+def cited_by(crate, name):
+    """What the contract of a public function or method of this name cites."""
+    return [meant for path, names in reached(crate) for found, owner, cited in contracts(path)
+            if found == name and (names is None or name in names or owner in names) for meant in cited]
+
+
 def main():
     words = sys.argv[1:]
+    if words == ["--table"]:
+        return table()
     if words[:1] == ["--check"]:
         check(words[1:] or sorted(os.listdir(HOME)))
     if len(words) != 2:
@@ -241,8 +272,7 @@ def main():
     if "." in name:
         module, _, name = name.rpartition(".")
         return report([(crate, module, name)])
-    begun = [meant for path, names in reached(crate) for found, owner, cited in contracts(path)
-             if found == name and (names is None or name in names or owner in names) for meant in cited]
+    begun = cited_by(crate, name)
     if not begun:
         sys.exit(f"believed: no public function {name} of {crate} cites a definition")
     report(begun)

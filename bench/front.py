@@ -7,7 +7,7 @@ sys.dont_write_bytecode = True
 from timing import timed
 
 HOME = os.path.dirname(os.path.abspath(__file__))
-PROGRAM = os.environ.get("GP_BENCH", os.path.join(HOME, "../crates/gp_bench/out/gp_bench"))
+PROGRAM = os.path.join(HOME, "../crates/gp_bench/out/gp_bench")
 HEAD = open(os.path.join(HOME, "../examples/coin.py")).read().split("@guppy\n")[0]
 GROWTH = 2.2
 LIMIT = 131072
@@ -47,8 +47,8 @@ def long_field(size):
 
 
 def deep_tuples(size):
-    """The same field, in tuples of tuples of sixteen of the struct's values."""
-    deep = "(" * 15 + ", ".join("p" * 16) + ",)" * 15
+    """The same field, in tuples thirty deep around sixteen of the struct's values."""
+    deep = "(" * 30 + ", ".join("p" * 16) + ",)" * 30
     user = "@guppy\ndef use(p: P) -> None:\n" + f"    {deep}\n" * (size // 2 // (len(deep) + 5))
     return struct("f" * (size // 2)) + user
 
@@ -71,7 +71,7 @@ def main():
     grown = []
     for shape in (lines, names, functions, long_field, deep_tuples):
         before = None
-        for size in (LIMIT // 4 - 1024, LIMIT // 2 - 1024):
+        for size in (LIMIT // 2 - 1024, LIMIT - 2048):
             text = shape(size)
             took, peak = measured(text)
             growth = "" if before is None else f"{peak / before:6.2f}"

@@ -4,88 +4,61 @@ use crate::files::{Failed, Files};
 use crate::laws::{live_below_next, trace_is_lines, worlds_stay_clean};
 use crate::memory_files::MemoryFiles;
 use crate::memory_sink::MemorySink;
-use crate::name::{LineNo, Name, Names};
-use crate::sequence::{Sequence, TextBytes};
-use crate::sink::Sink;
-use crate::tag::Tag;
+use crate::name::{LineNo, Name};
+use crate::sequence::TextBytes;
+use crate::sink::{Sink, write_all};
+use crate::stack::Stack;
+use crate::tag::{Tag, is_tag};
 use std::test::Fail;
 
 #[test]
-fn tags_have_1_to_255_bytes(rt: HostRuntime) -> Result<(), Fail> {
-    let letters = [b'a'; 256];
-    for (len, is_tag) in [(0, false), (1, true), (255, true), (256, false)] {
-        assert!(rt; len <= letters.len());
-        let tag = Tag::new(rt.alloc(), &letters[..len])?;
-        assert_eq!(rt; tag.is_some(), is_tag, "at length {len}");
-    }
-    Ok(())
-}
-
-#[test]
-fn tags_have_printable_bytes(rt: HostRuntime) -> Result<(), Fail> {
-    for (byte, is_tag) in [(31, false), (32, true), (126, true), (127, false)] {
-        let tag = Tag::new(rt.alloc(), &[byte])?;
-        assert_eq!(rt; tag.is_some(), is_tag, "at byte {byte}");
-    }
-    Ok(())
-}
-
-#[test]
-fn tags_keep_their_bytes(rt: HostRuntime) -> Result<(), Fail> {
+fn tags_and_names_keep_their_texts(rt: HostRuntime) -> Result<(), Fail> {
+    assert!(rt; is_tag(b"c 0~"));
     let tag = Tag::new(rt.alloc(), b"c 0~")?.ok_or("no tag")?;
     assert_eq!(rt; tag.as_bytes(), b"c 0~".as_slice());
-    Ok(())
-}
-
-#[test]
-fn names_are_listed(rt: HostRuntime) -> Result<(), Fail> {
-    let mut names: Names = Sequence::new(rt.alloc());
-    names.push(Name::new(rt.alloc(), "main")?)?;
-    names.push(Name::new(rt.alloc(), "q0")?)?;
-    assert_eq!(rt; names.len(), 2);
-    assert_eq!(rt; names.get(1).ok_or("no name")?.as_str(), "q0");
-    assert!(rt; names.get(2).is_none());
-    assert_eq!(rt; names.as_slice().len(), 2);
+    let name = Name::new(rt.alloc(), "q0")?;
+    assert_eq!(rt; name.copy()?.as_str(), "q0");
     assert_eq!(rt; LineNo(3).0, 3);
-    live_below_next();
-    worlds_stay_clean();
-    trace_is_lines();
     Ok(())
 }
 
 #[test]
-fn files_are_read_in_pieces(rt: HostRuntime) -> Result<(), Fail> {
+fn sequences_grow_and_shrink(rt: HostRuntime) -> Result<(), Fail> {
+    let mut bytes = TextBytes::new(rt.alloc());
+    bytes.push(b'h')?;
+    bytes.push(b'i')?;
+    assert_eq!(rt; bytes.get(1).copied(), Some(b'i'));
+    bytes.take_back();
+    assert_eq!(rt; bytes.len(), 1);
+    assert_eq!(rt; bytes.as_slice(), b"h".as_slice());
+    assert_eq!(rt; bytes.into_vec().len(), 1);
+    Ok(())
+}
+
+#[test]
+fn stacks_give_the_last_item_first(rt: HostRuntime) -> Result<(), Fail> {
+    let mut stack = Stack::new(rt.alloc());
+    stack.push(1u8)?;
+    stack.push(2)?;
+    stack.push(3)?;
+    stack.take_back();
+    assert_eq!(rt; stack.top(), Some(2));
+    assert_eq!(rt; stack.pop(), Some(2));
+    assert!(rt; !stack.is_empty());
+    Ok(())
+}
+
+#[test]
+fn files_are_read_until_a_call_fails(rt: HostRuntime) -> Result<(), Fail> {
     let mut files = MemoryFiles::new(rt.alloc());
-    files.put("a", b"old")?;
     files.put("a", b"12345")?;
-    files.put("b", b"other")?;
+    files.fail_at(2)?;
     files.open("a")?;
-    files.put("a", b"newer")?;
     let mut buf = [0; 3];
     assert_eq!(rt; files.read(&mut buf)?, 3);
     assert_eq!(rt; buf, *b"123");
-    assert_eq!(rt; files.read(&mut buf)?, 2);
-    assert_eq!(rt; buf, *b"453");
-    assert_eq!(rt; files.read(&mut buf)?, 0);
-    assert_eq!(rt; files.open("c"), Err(Failed));
-    assert_eq!(rt; files.faults(), 0);
-    Ok(())
-}
-
-#[test]
-fn calls_of_files_fail(rt: HostRuntime) -> Result<(), Fail> {
-    let mut files = MemoryFiles::new(rt.alloc());
-    files.put("a", b"12345")?;
-    files.fail_at(0)?;
-    files.fail_at(2)?;
-    assert_eq!(rt; files.open("a"), Err(Failed));
-    assert_eq!(rt; files.faults(), 1);
-    files.open("a")?;
-    let mut buf = [0; 8];
     assert_eq!(rt; files.read(&mut buf), Err(Failed));
-    assert_eq!(rt; files.faults(), 2);
-    assert_eq!(rt; files.read(&mut buf)?, 5);
-    assert_eq!(rt; buf, *b"12345\0\0\0");
+    assert_eq!(rt; files.faults(), 1);
     Ok(())
 }
 
@@ -93,93 +66,24 @@ fn calls_of_files_fail(rt: HostRuntime) -> Result<(), Fail> {
 fn sinks_fill_up(rt: HostRuntime) -> Result<(), Fail> {
     let mut sink = MemorySink::new(rt.alloc(), 5)?;
     sink.fail_at(1)?;
-    assert_eq!(rt; sink.write(b"abc")?, 3);
+    write_all(&mut sink, b"abc")?;
     assert_eq!(rt; sink.write(b"def"), Err(Failed));
-    assert_eq!(rt; sink.faults(), 1);
     assert_eq!(rt; sink.write(b"def")?, 2);
     assert_eq!(rt; sink.bytes(), b"abcde".as_slice());
-    assert_eq!(rt; sink.write(b"f"), Err(Failed));
-    assert_eq!(rt; sink.faults(), 2);
+    assert_eq!(rt; sink.faults(), 1);
     Ok(())
 }
 
 #[test]
-fn events_have_lines(rt: HostRuntime) -> Result<(), Fail> {
-    let tag = Tag::new(rt.alloc(), b"c 0")?.ok_or("no tag")?;
-    for (event, line) in [
-        (Event::Alloc(0), "alloc 0\n"),
-        (
-            Event::Free(18446744073709551615),
-            "free 18446744073709551615\n",
-        ),
-        (Event::MeasureFree(7, true), "measure_free 7 1\n"),
-        (Event::Measure(10, false), "measure 10 0\n"),
-        (Event::Reset(3), "reset 3\n"),
-        (Event::Gate1(GateName::H, 4), "h 4\n"),
-        (Event::Gate2(GateName::Cx, 1, 2), "cx 1 2\n"),
-        (Event::Gate3(GateName::Toffoli, 2, 0, 1), "toffoli 2 0 1\n"),
-        (Event::Rotation(GateName::Rz, 5, -16384), "rz 5 -16384\n"),
-        (Event::ResultBool(tag, true), "result c 0 True\n"),
-    ] {
-        let mut buf = [b'#'; 320];
-        let len = event_text(&event, &mut buf);
-        assert_eq!(rt; &buf[..len], line.as_bytes(), "for {line}");
-    }
-    Ok(())
-}
-
-#[test]
-fn gates_have_names(rt: HostRuntime) {
-    for (gate, line) in [
-        (GateName::X, "x 0\n"),
-        (GateName::Y, "y 0\n"),
-        (GateName::Z, "z 0\n"),
-        (GateName::S, "s 0\n"),
-        (GateName::Sdg, "sdg 0\n"),
-        (GateName::T, "t 0\n"),
-        (GateName::Tdg, "tdg 0\n"),
-        (GateName::Cy, "cy 0\n"),
-        (GateName::Cz, "cz 0\n"),
-        (GateName::Rx, "rx 0\n"),
-        (GateName::Ry, "ry 0\n"),
-    ] {
-        let mut buf = [b'#'; 320];
-        let len = event_text(&Event::Gate1(gate, 0), &mut buf);
-        assert_eq!(rt; &buf[..len], line.as_bytes(), "for {line}");
-    }
-}
-
-#[test]
-fn the_longest_line_fits(rt: HostRuntime) -> Result<(), Fail> {
-    let tag = Tag::new(rt.alloc(), &[b'a'; 255])?.ok_or("no tag")?;
-    let mut buf = [b'#'; 320];
-    let len = event_text(&Event::ResultInt(tag, -9223372036854775808), &mut buf);
-    assert_eq!(rt; len, 284);
-    assert_eq!(rt; &buf[..7], b"result ".as_slice());
-    assert_eq!(rt; &buf[7..262], [b'a'; 255].as_slice());
-    assert_eq!(rt; &buf[262..284], b" -9223372036854775808\n".as_slice());
-    Ok(())
-}
-
-#[test]
-fn ends_have_texts(rt: HostRuntime) {
-    for (end, text) in [
-        (End::Returned, "end return"),
-        (End::TurnsUsed, "end turns"),
-        (End::OutcomesUsed, "end outcomes"),
-        (End::DivisionByZero, "end division"),
-    ] {
-        assert_eq!(rt; end_text(end), text);
-    }
-}
-
-#[test]
-fn events_and_bytes_are_listed(rt: HostRuntime) -> Result<(), Fail> {
+fn events_and_ends_have_texts(rt: HostRuntime) -> Result<(), Fail> {
     let mut events = Events::new(rt.alloc());
-    events.push(Event::Alloc(0))?;
-    assert_eq!(rt; events.len(), 1);
-    let mut bytes = TextBytes::new(rt.alloc());
-    bytes.push(b'h')?;
-    assert_eq!(rt; bytes.as_slice(), b"h".as_slice());
+    events.push(Event::Gate2(GateName::Cx, 1, 2))?;
+    let mut buf = [b'#'; 320];
+    let len = event_text(events.get(0).ok_or("no event")?, &mut buf);
+    assert_eq!(rt; &buf[..len], b"cx 1 2\n".as_slice());
+    assert_eq!(rt; end_text(End::Returned), "end return");
+    live_below_next();
+    worlds_stay_clean();
+    trace_is_lines();
     Ok(())
 }

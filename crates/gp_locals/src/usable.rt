@@ -148,6 +148,13 @@ pub(crate) fn sizes(usable: &[UsableName]) -> u64
     total
 }
 
+// The name at a position, where there is one.
+fn name_at(names: &[Name], position: usize) -> Option<&Name>
+    ensures { option_copied result ≡ slice_get names.now position }
+{
+    names.get(position)
+}
+
 // Lists a name with its type, where there is one.
 fn list_name(listed: &mut NameTypes, name: Option<&Name>, ty: &Ty) -> Result<(), AllocError>
     ensures { OnOk result (map name_view listed.new
@@ -173,7 +180,7 @@ pub(crate) fn by_names(
 {
     let mut listed = Sequence::new(alloc);
     for name in usable {
-        list_name(&mut listed, names.get(name.position), &name.ty)?;
+        list_name(&mut listed, name_at(names, name.position), &name.ty)?;
     }
     Ok(listed)
 }

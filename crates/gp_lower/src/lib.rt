@@ -6,4 +6,4 @@ pub mod thin;
 pub mod thin_text;
 
 pub use thin::lower_thin;
-pub use thin_text::{ThinLine, ThinLines, thin};
+pub use thin_text::{ThinLine, ThinLines};

@@ -2,14 +2,11 @@
 
 use crate::copies::copy_text;
 use crate::expr::{BinOp, Expr, Exprs};
-use crate::function::{Function, Param, Params};
+use crate::function::Params;
 use crate::line_form::LineForm;
 use crate::place::{Place, Places, Targets};
-use crate::program::{Import, Item, Program};
-use crate::stmt::{Block, Stmt};
-use crate::struct_decl::{FieldDecl, FieldDecls, StructDecl};
 use crate::type_expr::{TypeExpr, TypeExprs};
-use gp_base::{LineNo, Name, Names, TextBytes};
+use gp_base::{Name, Names, TextBytes};
 use std::alloc::{AllocError, Global};
 use std::test::Fail;
 
@@ -141,99 +138,22 @@ fn types_are_copied(rt: HostRuntime) -> Result<(), Fail> {
     Ok(())
 }
 
-// The simple statement behind a header's colon.
-fn behind(header: &LineForm) -> Option<&LineForm> {
-    match header {
-        LineForm::If(_, body) => body.as_deref(),
-        LineForm::Elif(_, body) => body.as_deref(),
-        LineForm::While(_, body) => body.as_deref(),
-        LineForm::For(_, _, body) => body.as_deref(),
-        LineForm::Def(_, _, _, body) => body.as_deref(),
-        LineForm::Else(body) => body.as_deref(),
-        _ => None,
-    }
-}
-
 #[test]
 fn headers_keep_what_stands_behind_the_colon(rt: HostRuntime) -> Result<(), Fail> {
     let alloc = rt.alloc();
     let header = LineForm::if_header(alloc, Expr::Bool(true), None)?;
-    assert!(rt; behind(&header).is_none());
+    assert!(rt; matches!(header, LineForm::If(_, None)));
     let header = LineForm::elif_header(alloc, Expr::Bool(true), Some(LineForm::Break))?;
-    assert!(rt; matches!(behind(&header), Some(LineForm::Break)));
+    assert!(rt; matches!(header, LineForm::Elif(_, Some(_))));
     let header = LineForm::while_header(alloc, Expr::Bool(true), Some(LineForm::Pass))?;
-    assert!(rt; matches!(behind(&header), Some(LineForm::Pass)));
+    assert!(rt; matches!(header, LineForm::While(_, Some(_))));
     let header = LineForm::else_header(alloc, Some(LineForm::Continue))?;
-    assert!(rt; matches!(behind(&header), Some(LineForm::Continue)));
+    assert!(rt; matches!(header, LineForm::Else(Some(_))));
     let count = name(alloc, "k")?;
     let header = LineForm::for_header(alloc, count, Expr::Int(3), Some(LineForm::Docstring))?;
-    assert!(rt; matches!(behind(&header), Some(LineForm::Docstring)));
+    assert!(rt; matches!(header, LineForm::For(_, _, Some(_))));
     let def = name(alloc, "f")?;
     let header = LineForm::def_header(alloc, def, Params::new(alloc), None, Some(LineForm::Break))?;
-    assert!(rt; matches!(behind(&header), Some(LineForm::Break)));
-    Ok(())
-}
-
-// A function with one parameter and one statement.
-fn function(alloc: Global) -> Result<Function, AllocError> {
-    let mut params = Params::new(alloc);
-    params.push(Param {
-        name: Name::new(alloc, "q")?,
-        ty: TypeExpr::Named(Name::new(alloc, "qubit")?),
-        owned: true,
-    })?;
-    let mut body = Block::new(alloc);
-    body.push(Stmt::Return(LineNo(5), Some(Expr::Int(1))))?;
-    Ok(Function {
-        line: LineNo(4),
-        mark: LineNo(3),
-        name: Name::new(alloc, "f")?,
-        params,
-        result: Some(TypeExpr::Named(Name::new(alloc, "int")?)),
-        body,
-    })
-}
-
-#[test]
-fn programs_have_their_items(rt: HostRuntime) -> Result<(), Fail> {
-    let alloc = rt.alloc();
-    let mut program = Program::new(alloc);
-    program.push(Item::Import(Import {
-        line: LineNo(1),
-        module: name(alloc, "guppylang.std")?,
-        names: names(alloc, &["h", "x"])?,
-    }))?;
-    let mut fields = FieldDecls::new(alloc);
-    fields.push(FieldDecl {
-        line: LineNo(3),
-        name: name(alloc, "a")?,
-        ty: TypeExpr::Named(name(alloc, "int")?),
-    })?;
-    program.push(Item::Struct(StructDecl {
-        line: LineNo(2),
-        mark: LineNo(1),
-        name: name(alloc, "S")?,
-        fields,
-    }))?;
-    program.push(Item::Function(function(alloc)?))?;
-    assert_eq!(rt; program.len(), 3);
-    let Some(Item::Import(import)) = program.get(0) else {
-        return Err("no import".into());
-    };
-    assert!(rt; are(&import.names, &["h", "x"]));
-    let Some(Item::Struct(found)) = program.get(1) else {
-        return Err("no struct".into());
-    };
-    assert_eq!(rt; found.fields.len(), 1);
-    let Some(Item::Function(found)) = program.get(2) else {
-        return Err("no function".into());
-    };
-    assert!(rt; found.params.get(0).is_some_and(|param| param.owned));
-    assert!(rt;
-        matches!(
-            found.body.as_slice(),
-            [Stmt::Return(LineNo(5), Some(Expr::Int(1)))]
-        )
-    );
+    assert!(rt; matches!(header, LineForm::Def(_, _, _, Some(_))));
     Ok(())
 }

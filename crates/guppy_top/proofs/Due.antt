@@ -13,7 +13,7 @@ use Rattle.guppy_top.specs.declared.refusal.Refusal.TheVariants.{NotBuilt}
 use Rattle.guppy_top.specs.Call.{Answer, refused, done}
 use Rattle.guppy_top.specs.Compile.{IsThin, IsNotThin, spent_lines, given_up_at, held_at_return_at, IsDue, too_long, not_built, given_up, held_at_return, compiled}
 use Rattle.hg_json.specs.GraphText.{json}
-use Rattle.guppy_top.specs.code.Made.{Makes}
+use Rattle.guppy_top.specs.Made.{Makes}
 
 -- a text that isn't thin is refused as such
 pub due-not_thin : (text : List ℕ) → IsNotThin text → (answer : Answer) → IsDue text answer → answer ≡ refused NotBuilt

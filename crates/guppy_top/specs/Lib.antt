@@ -1,6 +1,7 @@
 pub mod Call
 pub mod Compile
 pub mod Input
+pub mod Made
 pub mod OneAnswer
 pub mod Refusal
 pub mod RunDue

@@ -1,3 +1,2 @@
 -- What the steps of a call give. The contract of the top call cites none of these.
 pub mod GraphFault
-pub mod Made

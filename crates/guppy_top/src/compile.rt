@@ -8,13 +8,14 @@ ghost use Rattle.guppy_top.specs.Call.{Answer, refused, done};
 ghost use Rattle.guppy_top.specs.Compile.{is_discard, spent_lines, given_up_at, held_at_return_at, IsDue};
 ghost use Rattle.hg_json.specs.GraphText.{json};
 ghost use Rattle.guppy_top.specs.Refusal.{status_of};
-ghost use Rattle.guppy_top.specs.code.Made.{Makes, RefusesInput};
+ghost use Rattle.guppy_top.specs.Made.{Makes, RefusesInput};
 
 use crate::mode_error::ModeError;
 use crate::refusal::{Refusal, SourceFault};
 use crate::status::Status;
 use gp_base::{LineNo, SOURCE_LIMIT};
-use gp_lower::{ThinLine, ThinLines, lower_thin, thin};
+use gp_lower::thin_text::thin;
+use gp_lower::{ThinLine, ThinLines, lower_thin};
 use hg_json::write;
 use std::alloc::Global;
 

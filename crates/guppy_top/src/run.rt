@@ -3,7 +3,7 @@
 ghost use Rattle.hg_run.specs.ThinRun.{IsThinGraph};
 ghost use Rattle.std.specs.Prelude.{IfOk};
 ghost use Rattle.guppy_top.specs.Call.{Answer};
-ghost use Rattle.guppy_top.specs.code.Made.{MakesRun, RefusesInput};
+ghost use Rattle.guppy_top.specs.Made.{MakesRun, RefusesInput};
 ghost use Rattle.guppy_top.specs.RunDue.{IsDueRun};
 
 use crate::mode_error::ModeError;

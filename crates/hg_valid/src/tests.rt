@@ -36,7 +36,11 @@ fn graphs_have_their_answers(rt: HostRuntime) -> Result<(), Fail> {
 #[test]
 fn a_graph_is_given_back(rt: HostRuntime) -> Result<(), Fail> {
     let alloc = rt.alloc();
-    let nodes = [(Kind::Main("main"), 0), (Kind::Input0, 1), (Kind::Output0, 1)];
+    let nodes = [
+        (Kind::Main("main"), 0),
+        (Kind::Input0, 1),
+        (Kind::Output0, 1),
+    ];
     let whole = graph_of(alloc, &nodes, &[], &[(2, 3)])?;
     match validate(alloc, whole) {
         Ok(valid) => {
@@ -56,7 +60,11 @@ fn a_graph_is_given_back(rt: HostRuntime) -> Result<(), Fail> {
 #[test]
 fn a_long_way_to_a_cycle(rt: HostRuntime) -> Result<(), Fail> {
     let alloc = rt.alloc();
-    let mut nodes = vec![in alloc; (Kind::Main("main"), 0), (Kind::Input0, 1), (Kind::Output0, 1)]?;
+    let mut nodes = vec![in alloc;
+        (Kind::Main("main"), 0),
+        (Kind::Input0, 1),
+        (Kind::Output0, 1),
+    ]?;
     let mut orders = Vec::new(alloc);
     for node in 4..2005 {
         nodes.push((Kind::One(0), 1))?;

@@ -1,11 +1,10 @@
 -- Exactly one answer is due for each text.
-use Rattle.std.proofs.Common.{◌≡◌, ◌≢◌, ◌⊎◌, inl, inr, ℕ, zero, suc, ◌+◌, ◌<◌, ◌≤◌, List, [], ◌∷◌, ◌++◌, length, map, Result, Ok, Err, refl, sym, ap, ap₂, subst, ◌∙◌, arith, append_assoc, append-nil}
+use Rattle.std.proofs.Common.{◌≡◌, ◌≢◌, ◌⊎◌, inl, inr, ℕ, zero, suc, ◌+◌, ◌<◌, ◌≤◌, List, [], ◌∷◌, ◌++◌, length, Result, Ok, Err, refl, sym, ap, ap₂, subst, ◌∙◌, arith, append_assoc, append-nil}
 use Rattle.std.proofs.lemmas.Bool.{cases_eq, cases_lt}
-use Rattle.std.proofs.lemmas.List.{map-append}
-use Rattle.gp_parse.specs.declared.thin_text.ThinLine.{ThinLine}
-use Rattle.gp_parse.specs.declared.thin_text.ThinLine.TheVariants as line
-use Rattle.gp_parse.specs.Thin.{line_text, lines_text, thin_head, thin_text}
-use Rattle.gp_parse.proofs.ThinLemmas.{one_reading, not_thin}
+use Rattle.gp_lower.specs.declared.thin_text.ThinLine.{ThinLine}
+use Rattle.gp_lower.specs.declared.thin_text.ThinLine.TheVariants as line
+use Rattle.gp_lower.specs.ThinText.{line_text, lines_text, thin_head, thin_text}
+use Rattle.gp_lower.proofs.ThinLemmas.{one_reading, not_thin}
 use Rattle.hg_graph.specs.Graph.{Graph}
 use Rattle.hg_graph.specs.Thin.{ThinGate, H, X, thin_graph}
 use Rattle.gp_lower.specs.Thin.{gate_line, gate_lines}
@@ -17,7 +16,7 @@ use Rattle.hg_run.proofs.ThinDecided.{thin_or_not}
 use Rattle.guppy_top.specs.declared.refusal.Refusal.TheVariants.{TooLong, NotBuilt}
 use Rattle.guppy_top.specs.Call.{Answer, refused, done}
 use Rattle.guppy_top.specs.Compile as compile
-use Rattle.guppy_top.specs.Compile.{source_limit, IsNotThin, spent_lines, given_up_at, held_at_return_at, IsDue}
+use Rattle.guppy_top.specs.Compile.{source_limit, IsNotThin, given_up_at, held_at_return_at, IsDue}
 use Rattle.guppy_top.specs.RunDue as run
 use Rattle.guppy_top.specs.RunDue.{graph_text_limit, graph_refusal, ran, IsDueRun}
 use Rattle.guppy_top.specs.OneAnswer.{HasOneAnswer, TextsHaveOneAnswer, GraphTextsHaveOneAnswer}

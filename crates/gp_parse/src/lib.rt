@@ -18,6 +18,3 @@ pub use gp_form::{FormFault, line_form};
 pub use nested_lines::nest;
 pub use parse_fault::ParseFault;
 pub use program_lines::program;
-
-#[cfg(test)]
-mod tests;

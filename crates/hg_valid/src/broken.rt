@@ -18,7 +18,7 @@ use hg_graph::{Graph, NodeId};
 use std::alloc::{AllocError, Global};
 
 // A broken rule, by its number, and a node that breaks it.
-#[derive(Clone, Copy, Debug, PartialEq, Eq)]
+#[derive(Clone, Copy)]
 pub(crate) struct Broken {
     pub(crate) rule: u8,
     pub(crate) node: NodeId,

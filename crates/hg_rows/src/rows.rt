@@ -1,11 +1,11 @@
 //! Graphs, and what is to be said of each.
 
-use super::graphs::Kind;
+use crate::graphs::Kind;
 
 // What is said of a graph: the number of the broken rule with the node that is named; or, of a valid graph, whether it is
 // ordered.
 #[derive(Clone, Copy, Debug, PartialEq, Eq)]
-pub(super) enum Answer {
+pub(crate) enum Answer {
     Broken(u8, u64),
     Ordered,
     Unordered,
@@ -13,12 +13,12 @@ pub(super) enum Answer {
 
 // A graph: the nodes behind the `Module`, each with its parent; the links, each the node and the number of its output and
 // those of its input; and the order links.
-pub(super) struct Row {
-    pub(super) shows: &'static str,
-    pub(super) nodes: &'static [(Kind, u64)],
-    pub(super) links: &'static [(u64, u64, u64, u64)],
-    pub(super) orders: &'static [(u64, u64)],
-    pub(super) answer: Answer,
+pub(crate) struct Row {
+    pub(crate) shows: &'static str,
+    pub(crate) nodes: &'static [(Kind, u64)],
+    pub(crate) links: &'static [(u64, u64, u64, u64)],
+    pub(crate) orders: &'static [(u64, u64)],
+    pub(crate) answer: Answer,
 }
 
 // A function without values, and nodes in it.
@@ -36,7 +36,7 @@ const FREE: (Kind, u64) = (Kind::Free, 1);
 
 const PURE: (Kind, u64) = (Kind::One(0), 1);
 
-pub(super) const ROWS: [Row; 44] = [
+pub(crate) const ROWS: [Row; 44] = [
     Row {
         shows: "one qubit is made, turned and freed",
         nodes: &[MAIN, INPUT, OUTPUT, ALLOC, H, FREE],

@@ -9,7 +9,7 @@ use std::alloc::{AllocError, Global};
 
 // An op. A number in its name says how many qubits it takes or gives.
 #[derive(Clone, Copy)]
-pub(super) enum Kind {
+pub(crate) enum Kind {
     Module,
     // a function with this name, from no values to none
     Main(&'static str),
@@ -165,7 +165,7 @@ fn port(node: u64, index: u64) -> Port
 
 // The graph of these nodes, each an op and a parent, of these links, each the node and the number of its output and those
 // of its input, and of these order links. A node or a link that names what isn't there is left out.
-pub(super) fn graph_of(
+pub(crate) fn graph_of(
     alloc: Global,
     nodes: &[(Kind, u64)],
     links: &[(u64, u64, u64, u64)],

@@ -1,9 +1,8 @@
-//! Each public call once. What the phases say of texts is in the tables of `gp_rows`.
+//! Each public call of `gp_front` once.
 
-use crate::checked::check_text;
-use crate::fault::TextFault;
-use crate::laws::one_answer;
 use gp_base::LineNo;
+use gp_front::laws::one_answer;
+use gp_front::{TextFault, check_text};
 use gp_lex::LexFault;
 use std::test::Fail;
 

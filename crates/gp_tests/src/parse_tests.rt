@@ -1,12 +1,9 @@
-//! Each public function once. What the rules say of texts is in the tables of `gp_rows`.
+//! Each public function of `gp_parse` once.
 
-use crate::form_line::FormLine;
-use crate::laws::{never_both, one_fault, one_program, program_or_fault};
-use crate::nested_lines::nest;
-use crate::parse_fault::ParseFault;
-use crate::program_lines::program;
 use gp_base::LineNo;
 use gp_lex::lines;
+use gp_parse::laws::{never_both, one_fault, one_program, program_or_fault};
+use gp_parse::{FormLine, ParseFault, nest, program};
 use gp_tree::LineForm;
 use std::test::Fail;
 

@@ -1,12 +1,9 @@
 //! Tests of the rules and of order, on a table of small graphs.
 
-mod graphs;
-mod rows;
-
-use self::graphs::{Kind, graph_of};
-use self::rows::{Answer, ROWS};
-use crate::{Invalid, is_ordered, validate};
+use crate::graphs::{Kind, graph_of};
+use crate::rows::{Answer, ROWS};
 use hg_graph::{Graph, NodeId};
+use hg_valid::{Invalid, is_ordered, validate};
 use std::alloc::{AllocError, Global};
 use std::test::Fail;
 
@@ -33,25 +30,36 @@ fn graphs_have_their_answers(rt: HostRuntime) -> Result<(), Fail> {
     Ok(())
 }
 
+// A function without values.
+const NODES: [(Kind, u64); 3] = [
+    (Kind::Main("main"), 0),
+    (Kind::Input0, 1),
+    (Kind::Output0, 1),
+];
+
 #[test]
-fn a_graph_is_given_back(rt: HostRuntime) -> Result<(), Fail> {
+fn a_valid_graph_is_given_back(rt: HostRuntime) -> Result<(), Fail> {
     let alloc = rt.alloc();
-    let nodes = [
-        (Kind::Main("main"), 0),
-        (Kind::Input0, 1),
-        (Kind::Output0, 1),
-    ];
-    let whole = graph_of(alloc, &nodes, &[], &[(2, 3)])?;
-    match validate(alloc, whole) {
+    match validate(alloc, graph_of(alloc, &NODES, &[], &[(2, 3)])?) {
         Ok(valid) => {
             assert_eq!(rt; valid.graph().node_count(), 4);
             assert_eq!(rt; valid.into_graph().link_count(), 1);
         }
         Err(_) => assert!(rt; false),
     }
-    match validate(alloc, graph_of(alloc, &nodes[..2], &[], &[])?) {
-        Err(Invalid::Rule { graph, .. }) => assert_eq!(rt; graph.node_count(), 3),
-        _ => assert!(rt; false),
+    Ok(())
+}
+
+#[test]
+fn a_graph_that_is_refused_is_given_back(rt: HostRuntime) -> Result<(), Fail> {
+    let alloc = rt.alloc();
+    match validate(alloc, graph_of(alloc, &NODES[..2], &[], &[])?) {
+        Err(Invalid::Rule { rule, node, graph }) => {
+            assert_eq!(rt; (rule, node.0), (3, 1));
+            assert_eq!(rt; graph.node_count(), 3);
+        }
+        Err(Invalid::Memory { graph: _graph }) => assert!(rt; false),
+        Ok(_valid) => assert!(rt; false),
     }
     Ok(())
 }

@@ -11,7 +11,7 @@ use std::alloc::{AllocError, Global};
 use std::marker::Model;
 
 /// What a piece of a text is.
-#[derive(Debug, Drop)]
+#[derive(Drop)]
 pub enum PieceKind {
     /// A space between tokens.
     Space,
@@ -26,7 +26,7 @@ pub enum PieceKind {
 }
 
 /// A bracket that is open.
-#[derive(Clone, Copy, Debug, PartialEq, Eq)]
+#[derive(Clone, Copy)]
 pub struct Bracket {
     /// The opening bracket.
     pub symbol: Symbol,
@@ -35,7 +35,7 @@ pub struct Bracket {
 }
 
 /// The brackets that are open. A contract sees them as a list, the innermost first.
-#[derive(Debug, Drop)]
+#[derive(Drop)]
 pub struct Brackets {
     items: Vec<Bracket>,
 }
@@ -83,7 +83,7 @@ impl Brackets {
 }
 
 /// The blanks that stand before the first token of a logical line.
-#[derive(Clone, Copy, Debug, PartialEq, Eq)]
+#[derive(Clone, Copy)]
 pub struct Margin {
     /// How many spaces.
     pub spaces: u32,
@@ -92,7 +92,7 @@ pub struct Margin {
 }
 
 /// What stands before a position.
-#[derive(Debug, Drop)]
+#[derive(Drop)]
 pub struct Context {
     /// The physical line, counted from 1.
     pub line: u32,

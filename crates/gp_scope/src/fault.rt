@@ -4,7 +4,7 @@ use gp_base::LineNo;
 use std::alloc::{AllocError, AllocFailed};
 
 /// Why a program has no scope. A line number counts physical lines from 1.
-#[derive(Clone, Copy, Debug, PartialEq, Eq)]
+#[derive(Clone, Copy)]
 pub enum ScopeFault {
     /// A module that offers no such name: the import's line.
     ImportUnknown(LineNo),

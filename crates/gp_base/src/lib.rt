@@ -26,6 +26,3 @@ pub use sequence::{Sequence, TextBytes};
 pub use sink::{Sink, write_all};
 pub use stack::Stack;
 pub use tag::Tag;
-
-#[cfg(test)]
-mod tests;

@@ -16,6 +16,3 @@ pub use limit::TOTAL_SIZE_LIMIT;
 pub use locals::{Locals, locals_of};
 pub use name_type::{NameType, NameTypes};
 pub use tag::is_tag;
-
-#[cfg(test)]
-mod tests;

@@ -8,9 +8,6 @@ ghost use Rattle.hg_graph.specs.Rules.{InputsLinkedOnce, LinearOutputsLinkedOnce
 ghost use Rattle.hg_ops.specs.OpView.{op_view};
 ghost use Rattle.hg_graph.specs.Thin.{ThinGate, in_main, thin_graph};
 
-#[cfg(test)]
-mod tests;
-
 use crate::thin_text::{ThinLine, ThinLines};
 use gp_base::Name;
 use hg_graph::{Graph, NodeId, Port};

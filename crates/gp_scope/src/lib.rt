@@ -17,8 +17,6 @@ mod phase;
 pub mod scope;
 mod sizes;
 mod tables;
-#[cfg(test)]
-mod tests;
 mod types;
 
 pub use fault::ScopeFault;

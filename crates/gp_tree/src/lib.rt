@@ -25,6 +25,3 @@ pub use program::{Import, Item, Program};
 pub use stmt::{Block, Stmt};
 pub use struct_decl::{FieldDecl, FieldDecls, StructDecl};
 pub use type_expr::{TypeExpr, TypeExprs};
-
-#[cfg(test)]
-mod tests;

@@ -14,6 +14,3 @@ pub use names::builtin;
 pub use same::{same_type, same_types};
 pub use signature::{Mode, SigParam, SigParams, Signature};
 pub use ty::{Field, Fields, Ty, Tys, is_linear, leaf_count, size};
-
-#[cfg(test)]
-mod tests;

@@ -1,8 +1,5 @@
 //! Graphs, as a list of nodes and a list of links.
 
-#[cfg(test)]
-mod tests;
-
 use crate::filling::indexes_of;
 use crate::indexes::{push_node, push_order, push_ports};
 use crate::link::{Link, NodeId, Port};

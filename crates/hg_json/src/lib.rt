@@ -13,6 +13,3 @@ pub use fault::JsonFault;
 pub use laws::written_graphs_read_back;
 pub use reading::{MAX_TEXT_BYTES, read};
 pub use writing::write;
-
-#[cfg(test)]
-mod tests;

@@ -24,6 +24,3 @@ pub use op_kind::OpKind;
 pub use ports::{input_count, output_count};
 pub use signatures::signature;
 pub use turn::takes_turn;
-
-#[cfg(test)]
-mod tests;

@@ -10,6 +10,3 @@ mod telling;
 pub use fault::RunFault;
 pub use running::run_thin;
 pub use shape::is_thin;
-
-#[cfg(test)]
-mod tests;

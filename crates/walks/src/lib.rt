@@ -11,6 +11,3 @@ mod levels;
 pub use back::first_back;
 pub use components::component_numbers;
 pub use counts::{Successors, longest_chains};
-
-#[cfg(test)]
-mod tests;

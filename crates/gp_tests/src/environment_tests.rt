@@ -1,8 +1,7 @@
 //! What environments say of the names of a function.
 
-use crate::environment::{Environment, Found};
-use crate::locals::{Locals, locals_of};
 use gp_base::Name;
+use gp_locals::{Environment, Found, Locals, locals_of};
 use gp_types::{Mode, SigParam, Ty, Tys};
 use std::alloc::{AllocError, Global};
 use std::test::Fail;

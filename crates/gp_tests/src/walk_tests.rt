@@ -1,10 +1,10 @@
 ghost use Rattle.std.specs.Prelude.{◌≡◌, ◌<◌, length, All, IfOk};
 ghost use Rattle.walks.specs.Walks.{IsClosed};
 
-use crate::{Successors, component_numbers, first_back, longest_chains};
 use gp_base::Sequence;
 use std::alloc::{AllocError, Global};
 use std::test::Fail;
+use walks::{Successors, component_numbers, first_back, longest_chains};
 
 // The list of these nodes. What is no node is left out.
 fn row_of(alloc: Global, nodes: &[u64], count: u64) -> Result<Sequence<u64>, AllocError>

@@ -1,14 +1,14 @@
-use crate::event::{End, Event, Events, GateName};
-use crate::event_text::{end_text, event_text};
-use crate::files::{Failed, Files};
-use crate::laws::{live_below_next, trace_is_lines, worlds_stay_clean};
-use crate::memory_files::MemoryFiles;
-use crate::memory_sink::MemorySink;
-use crate::name::{LineNo, Name};
-use crate::sequence::TextBytes;
-use crate::sink::{Sink, write_all};
-use crate::stack::Stack;
-use crate::tag::{Tag, is_tag};
+use gp_base::event::{End, Event, Events, GateName};
+use gp_base::event_text::{end_text, event_text};
+use gp_base::files::{Failed, Files};
+use gp_base::laws::{live_below_next, trace_is_lines, worlds_stay_clean};
+use gp_base::memory_files::MemoryFiles;
+use gp_base::memory_sink::MemorySink;
+use gp_base::name::{LineNo, Name};
+use gp_base::sequence::TextBytes;
+use gp_base::sink::{Sink, write_all};
+use gp_base::stack::Stack;
+use gp_base::tag::{Tag, is_tag};
 use std::test::Fail;
 
 #[test]

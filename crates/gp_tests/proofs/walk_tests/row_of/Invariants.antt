@@ -1,6 +1,6 @@
 use Rattle.std.proofs.Common.{◌<◌}
 use Rattle.std.specs.Prelude.{All}
-use Rattle.walks.proofs.tests.row_of.Given as goal
+use Rattle.gp_tests.proofs.walk_tests.row_of.Given as goal
 
 -- each so far is a node
 abbrev pub invariant-loop-node : goal.invariant-loop-node

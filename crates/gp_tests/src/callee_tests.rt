@@ -1,7 +1,7 @@
 //! What names call, and which strings are tags.
 
-use crate::{Callee, Locals, find_callee, is_tag, locals_of, takes_tag};
 use gp_base::{LineNo, Name, Names, Sequence};
+use gp_locals::{Callee, Locals, find_callee, is_tag, locals_of, takes_tag};
 use gp_scope::{Scope, collect};
 use gp_tree::{Function, Import, Item, Program, StructDecl};
 use gp_types::{Mode, SigParam, Ty};

@@ -1,11 +1,11 @@
 //! Each public function once, on types of every kind.
 
-use crate::builtins::{Builtin, BuiltinType};
-use crate::names::builtin;
-use crate::same::{same_type, same_types};
-use crate::signature::{Mode, SigParam, Signature};
-use crate::ty::{Field, Ty, is_linear, leaf_count, size};
 use gp_base::{GateName, Name, Sequence};
+use gp_types::builtins::{Builtin, BuiltinType};
+use gp_types::names::builtin;
+use gp_types::same::{same_type, same_types};
+use gp_types::signature::{Mode, SigParam, Signature};
+use gp_types::ty::{Field, Ty, is_linear, leaf_count, size};
 use std::alloc::{AllocError, Global};
 use std::test::Fail;
 

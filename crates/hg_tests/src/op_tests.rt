@@ -1,7 +1,10 @@
 //! Tests of the tables.
 
-use super::*;
 use gp_base::GateName;
+use hg_ops::{
+    ExtOp, Gate, GraphType, OpKind, Row, input_count, is_effect, is_linear, name_of, op_of_name,
+    output_count, signature, takes_turn,
+};
 use std::alloc::{AllocError, Global};
 use std::process::Abort;
 use std::test::Fail;

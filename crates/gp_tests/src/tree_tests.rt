@@ -1,12 +1,12 @@
 //! Each kind of tree made once from its parts, and the parts read again.
 
-use crate::copies::copy_text;
-use crate::expr::{BinOp, Expr, Exprs};
-use crate::function::Params;
-use crate::line_form::LineForm;
-use crate::place::{Place, Places, Targets};
-use crate::type_expr::{TypeExpr, TypeExprs};
 use gp_base::{Name, Names, TextBytes};
+use gp_tree::copies::copy_text;
+use gp_tree::expr::{BinOp, Expr, Exprs};
+use gp_tree::function::Params;
+use gp_tree::line_form::LineForm;
+use gp_tree::place::{Place, Places, Targets};
+use gp_tree::type_expr::{TypeExpr, TypeExprs};
 use std::alloc::{AllocError, Global};
 use std::test::Fail;
 

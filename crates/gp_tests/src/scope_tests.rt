@@ -1,10 +1,9 @@
 //! Each public call once. What the rules of names say of programs is in the tables of `gp_rows`.
 
-use crate::fault::ScopeFault;
-use crate::laws::fault_or_scope;
-use crate::modules::offers;
-use crate::phase::collect;
 use gp_base::{LineNo, Name, Names};
+use gp_scope::laws::fault_or_scope;
+use gp_scope::modules::offers;
+use gp_scope::{ScopeFault, collect};
 use gp_tree::{Import, Item, Program};
 use std::alloc::{AllocError, Global};
 use std::test::Fail;

@@ -1,10 +1,7 @@
 //! Texts that are read, refused and written.
 
-use crate::fault::JsonFault;
-use crate::laws::written_graphs_read_back;
-use crate::reading::{MAX_TEXT_BYTES, read};
-use crate::writing::write;
 use hg_graph::{Link, NodeId, Port};
+use hg_json::{JsonFault, MAX_TEXT_BYTES, read, write, written_graphs_read_back};
 use hg_ops::OpKind;
 use std::test::Fail;
 

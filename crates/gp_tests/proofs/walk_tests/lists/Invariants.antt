@@ -1,6 +1,6 @@
 use Rattle.std.proofs.Common.{◌≡◌, ◌<◌, length}
 use Rattle.std.specs.Prelude.{All}
-use Rattle.walks.proofs.tests.lists.Given as goal
+use Rattle.gp_tests.proofs.walk_tests.lists.Given as goal
 
 -- a list for each row so far, of nodes
 abbrev pub invariant-loop-row : goal.invariant-loop-row

@@ -5,7 +5,7 @@ use Rattle.std.proofs.lemmas.List.{get_or_past}
 use Rattle.gp_base.specs.Membership.{In}
 use Rattle.walks.specs.Walks.{row, IsClosed}
 use Rattle.walks.proofs.WalkLemmas.{place_in}
-use Rattle.walks.proofs.tests.lists.Goals as goal
+use Rattle.gp_tests.proofs.walk_tests.lists.Goals as goal
 
 closed : (lists : List (List ℕ)) (count : ℕ) → length lists ≡ count → All (λ nodes. All (λ node. node < count) nodes) lists → IsClosed lists
 closed lists count e each = record {

@@ -2,9 +2,10 @@
 
 ghost use Rattle.std.specs.Prelude.{◌≡◌, length, IfOk};
 
-use super::*;
 use gp_base::Name;
-use hg_ops::Row;
+use hg_graph::{Graph, Link, NodeId, Port};
+use hg_ops::{OpKind, Row};
+use std::alloc::{AllocError, Global};
 use std::test::Fail;
 
 const ALLOC: NodeId = NodeId(4);
@@ -169,7 +170,7 @@ fn lists_order_links(rt: HostRuntime) -> Result<(), Fail> {
 }
 
 #[test]
-#[tactic(auto, unfolding(crate::specs::Graph::op_at))]
+#[tactic(auto, unfolding(hg_graph::specs::Graph::op_at))]
 fn lists_links_by_port(rt: HostRuntime) -> Result<(), Fail> {
     let mut graph = Graph::new(rt.alloc())?;
     let source = graph.add_node(OpKind::Alloc, NodeId(0))?;
@@ -185,7 +186,7 @@ fn lists_links_by_port(rt: HostRuntime) -> Result<(), Fail> {
 }
 
 #[test]
-#[tactic(auto, unfolding(crate::specs::Graph::op_at))]
+#[tactic(auto, unfolding(hg_graph::specs::Graph::op_at))]
 fn lists_links_into_a_port(rt: HostRuntime) -> Result<(), Fail> {
     let mut graph = Graph::new(rt.alloc())?;
     let target = graph.add_node(OpKind::Free, NodeId(0))?;

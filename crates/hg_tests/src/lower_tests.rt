@@ -1,8 +1,9 @@
 //! Tests of the graphs of thin texts, read node by node and link by link.
 
-use super::*;
 use gp_base::Sequence;
-use hg_graph::Link;
+use gp_lower::{ThinLine, lower_thin};
+use hg_graph::{Graph, Link, NodeId, Port};
+use hg_ops::OpKind;
 use std::process::Abort;
 use std::test::Fail;
 

@@ -2,10 +2,10 @@
 
 ghost use Rattle.std.specs.Prelude.{◌≡◌, ◌<◌, length, IfOk, OnOk};
 
-use crate::{RunFault, is_thin, run_thin};
 use gp_base::{MemorySink, Name};
 use hg_graph::{Graph, NodeId, Port};
 use hg_ops::{OpKind, Row};
+use hg_run::{RunFault, is_thin, run_thin};
 use std::alloc::{AllocError, Global};
 use std::test::Fail;
 

@@ -2,22 +2,7 @@
 //! prints a line `NAME: ANSWER` for each answer to a row, under the name of the row's file. The file `stdout` has what is
 //! wanted: it is written by hand, from the rules of the language.
 //!
-//! A table is text, line by line. A line is one of these, or blank:
-//!
-//! | Line | What it does |
-//! |---|---|
-//! | `# ...` | nothing: a comment |
-//! | `tell KIND` | what is told of the rows below, up to the next such line |
-//! | `head NAME` | begins a text that the texts of rows can begin with |
-//! | `under NAME` | the texts of the rows below begin with this head, up to the next such line; with `under nothing` they don't |
-//! | `row NAME: ...` | begins a row; behind the colon stands what the row shows |
-//! | `\|TEXT` | TEXT as it stands, and a line feed |
-//! | `+TEXT` | TEXT with escapes, and no line feed |
-//! | `*COUNT TEXT` | TEXT with escapes, COUNT times, and no line feed |
-//!
-//! The last three add to the head or to the row above them. The escapes are `\n` `\r` `\t`, `\xHH` (the byte with these two
-//! hexadecimal digits), `\\`, and four that tell one repetition from the next: `\#` is its number, counted from 1, `\<` the
-//! number before it, `\>` the number behind it, and `\_` as many blanks as its number says. A text has at most 131,072 bytes.
+//! The lines of a table are those of `row_table`, and behind `tell` stands a KIND:
 //!
 //! | KIND | What is told |
 //! |---|---|
@@ -34,19 +19,18 @@
 //! code in `faults`.
 #![tactic(auto)]
 
-mod escapes;
 mod fault_text;
-mod malformed;
+mod kind;
 mod program_text;
 mod scope_text;
-mod table;
 mod token_text;
 mod told;
 mod type_text;
 
-use crate::table::Table;
+use crate::kind::kind_of;
 use crate::told::answer;
 use anyhow::{Result, anyhow};
+use row_table::Table;
 use std::alloc::Global;
 use std::rt::{Env, Files};
 use std::{env, fs};
@@ -60,7 +44,10 @@ fn print_table<R: Files + Print + AllocGlobal>(rt: &R, alloc: Global, file: &str
     };
     println!(rt; "{file}")?;
     for row in table.rows() {
-        let said = answer(alloc, row)?;
+        let Some(kind) = kind_of(row.told) else {
+            return Err(anyhow!("{file}, row {}: no such thing can be told", row.name));
+        };
+        let said = answer(alloc, kind, &row.text)?;
         for line in said.as_str().lines() {
             println!(rt; "{}: {line}", row.name)?;
         }

@@ -3,9 +3,9 @@
 ghost use Rattle.std.specs.Prelude.{◌≤◌, length};
 
 use crate::fault_text::{lex_code, parse_code, scope_code, told_code, told_fault};
+use crate::kind::Kind;
 use crate::program_text::{told_form_names, told_forms, told_items, told_lines_of_items};
 use crate::scope_text::told_scope;
-use crate::table::{Kind, Row};
 use crate::token_text::told_lines;
 use crate::type_text::told_types;
 use gp_base::SOURCE_LIMIT;
@@ -16,13 +16,12 @@ use gp_scope::collect;
 use gp_tree::Program;
 use std::alloc::{AllocError, Global};
 
-/// What is told of a row, in one line or more.
-pub fn answer(alloc: Global, row: &Row) -> Result<String, AllocError> {
-    let text = row.text.as_slice();
+/// What is told of a text, in one line or more.
+pub fn answer(alloc: Global, kind: Kind, text: &[u8]) -> Result<String, AllocError> {
     if text.len() > SOURCE_LIMIT {
         return format!(in alloc; "longer than a text may be");
     }
-    let told = match row.kind {
+    let told = match kind {
         Kind::Faults => told_first_fault(alloc, text)?,
         Kind::Types => told_typed(alloc, text)?,
         Kind::Tokens
@@ -30,7 +29,7 @@ pub fn answer(alloc: Global, row: &Row) -> Result<String, AllocError> {
         | Kind::FormNames
         | Kind::Items
         | Kind::ItemLines
-        | Kind::Scope => told_of_lines(alloc, row.kind, text)?,
+        | Kind::Scope => told_of_lines(alloc, kind, text)?,
     };
     if told.is_empty() {
         return format!(in alloc; "nothing");

@@ -1,7 +1,0 @@
-mod Delivered
-mod Discards
-mod Due
-mod OneAnswer
-mod ReadSoFar
-mod Served
-mod Told

@@ -1,0 +1,7 @@
+mod Delivered
+mod Discards
+mod Due
+mod OneAnswer
+mod ReadSoFar
+mod Served
+mod Told

@@ -1,0 +1,28 @@
+-- What compiling a text in memory gives.
+use Rattle.std.specs.Prelude.{◌≡◌, ℕ, [], Result, Ok, Err, Vec}
+use Rattle.std.specs.declared.alloc.Global.{Global}
+use Rattle.guppy_call.specs.declared.mode_error.ModeError.{ModeError}
+use Rattle.guppy_call.specs.declared.mode_error.ModeError.TheVariants.{Refused, Memory}
+use Rattle.guppy_call.specs.declared.status.Status.TheVariants as status
+use Rattle.guppy_call.specs.Refusal.{status_of}
+use Rattle.hg_graph.specs.Graph.{Graph}
+use Rattle.guppy_call.specs.Call.{Answer, refused}
+use Rattle.guppy_call.specs.RunDue.{ran}
+
+-- the result is this answer: the line to write, or the refusal; or there was no memory
+abbrev pub Makes : Result (Vec ℕ Global) ModeError → Answer → Type 0
+Makes (Ok line) answer = answer ≡ record { status = status.Done; out = line.items; err = [] }
+Makes (Err (Refused refusal)) answer = answer ≡ refused refusal
+Makes (Err Memory) answer = Unit {0}
+
+-- what is refused is the input
+abbrev pub RefusesInput : {A : Type 0} → Result A ModeError → Type 0
+RefusesInput (Ok made) = Unit {0}
+RefusesInput (Err (Refused refusal)) = status_of refusal ≡ status.Refused
+RefusesInput (Err Memory) = Unit {0}
+
+-- the result is this answer: the thin graph whose trace is written, or the refusal; or there was no memory
+abbrev pub MakesRun : Result Graph ModeError → Answer → Type 0
+MakesRun (Ok g) answer = answer ≡ ran g
+MakesRun (Err (Refused refusal)) answer = answer ≡ refused refusal
+MakesRun (Err Memory) answer = Unit {0}

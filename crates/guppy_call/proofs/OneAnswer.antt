@@ -19,7 +19,8 @@ use Rattle.guppy_call.specs.Compile as compile
 use Rattle.guppy_call.specs.Compile.{source_limit, IsNotThin, given_up_at, held_at_return_at, IsDue}
 use Rattle.guppy_call.specs.RunDue as run
 use Rattle.guppy_call.specs.RunDue.{graph_text_limit, graph_refusal, ran, IsDueRun}
-use Rattle.guppy_call.specs.OneAnswer.{HasOneAnswer, TextsHaveOneAnswer, GraphTextsHaveOneAnswer}
+use Rattle.guppy_call.specs.OneAnswer as one
+use Rattle.guppy_call.specs.OneAnswer.{TextForm, form_of, graph_form_of, HasOneAnswer, TextsHaveOneAnswer, GraphTextsHaveOneAnswer}
 use Rattle.guppy_call.proofs.Due.{due-not_thin}
 
 -- ---- a text is thin or it isn't
@@ -143,14 +144,61 @@ only_long text long answer (compile.given_up gates next more t) = absurd (omega 
 only_long text long answer (compile.held_at_return gates t) = absurd (omega (arith, t.within))
 only_long text long answer (compile.compiled gates t) = absurd (omega (arith, t.within))
 
+-- ---- the form of a text
+
+abbrev form_from : List ThinLine → TextForm
+form_from [] = TextForm.held_at_return
+form_from (line.H ∷ lines) = form_from lines
+form_from (line.X ∷ lines) = form_from lines
+form_from (line.Discard ∷ []) = TextForm.compiled
+form_from (line.Discard ∷ next ∷ more) = TextForm.given_up
+
+form_past_gates : (gates : List ThinGate) (lines : List ThinLine) → form_from (gate_lines gates ++ lines) ≡ form_from lines
+form_past_gates [] lines = refl
+form_past_gates (H ∷ gates) lines = form_past_gates gates lines
+form_past_gates (X ∷ gates) lines = form_past_gates gates lines
+
+held_form : (gates : List ThinGate) → form_from (gate_lines gates) ≡ TextForm.held_at_return
+held_form gates = ap form_from (sym (append-nil (gate_lines gates))) ∙ form_past_gates gates []
+
+thin_form : (text : List ℕ) (lines : List ThinLine) → length text ≤ source_limit → text ≡ thin_text lines → (answer : Answer) (due : IsDue text answer) → form_of text answer due ≡ form_from lines
+thin_form text lines l e answer (compile.too_long long) = absurd (omega arith)
+thin_form text lines l e answer (compile.not_built n) = absurd (n.other lines e)
+thin_form text lines l e answer (compile.given_up gates next more t) =
+    sym (form_past_gates gates (line.Discard ∷ next ∷ more)) ∙ ap form_from (one_reading _ _ (sym t.spelled ∙ e))
+thin_form text lines l e answer (compile.held_at_return gates t) = sym (held_form gates) ∙ ap form_from (one_reading _ _ (sym t.spelled ∙ e))
+thin_form text lines l e answer (compile.compiled gates t) =
+    sym (form_past_gates gates (line.Discard ∷ [])) ∙ ap form_from (one_reading _ _ (sym t.spelled ∙ e))
+
+long_form : (text : List ℕ) → source_limit < length text → (answer : Answer) (due : IsDue text answer) → form_of text answer due ≡ TextForm.too_long
+long_form text long answer (compile.too_long more) = refl
+long_form text long answer (compile.not_built n) = absurd (omega (arith, n.within))
+long_form text long answer (compile.given_up gates next more t) = absurd (omega (arith, t.within))
+long_form text long answer (compile.held_at_return gates t) = absurd (omega (arith, t.within))
+long_form text long answer (compile.compiled gates t) = absurd (omega (arith, t.within))
+
+other_form : (text : List ℕ) → IsNotThin text → (answer : Answer) (due : IsDue text answer) → form_of text answer due ≡ TextForm.not_built
+other_form text n answer (compile.too_long long) = absurd (omega (arith, n.within))
+other_form text n answer (compile.not_built m) = refl
+other_form text n answer (compile.given_up gates next more t) = absurd (n.other _ t.spelled)
+other_form text n answer (compile.held_at_return gates t) = absurd (n.other _ t.spelled)
+other_form text n answer (compile.compiled gates t) = absurd (n.other _ t.spelled)
+
 pub texts_have_one_answer : TextsHaveOneAnswer
 texts_have_one_answer text = elim (cases_lt source_limit (length text)) [
-  | inl long ↦ record { answer = refused TooLong; due = compile.too_long long; only = only_long text long }
+  | inl long ↦ record { answer = refused TooLong; due = compile.too_long long; only = only_long text long; one_form = long_form text long }
   | inr within ↦ elim (text_thin_or_not text) [
-    | inl t ↦ record { answer = answer_from [] t.0; due = is_due text within [] t.0 t.1; only = only_thin text t.0 within t.1 }
+    | inl t ↦
+        let due : IsDue text (answer_from [] t.0) = is_due text within [] t.0 t.1 in
+        record {
+          answer = answer_from [] t.0;
+          due = due;
+          only = only_thin text t.0 within t.1;
+          one_form = λ other cause. thin_form text t.0 within t.1 other cause ∙ sym (thin_form text t.0 within t.1 _ due);
+        }
     | inr n ↦
         let other : IsNotThin text = record { within = within; other = λ lines e. n (lines, e) } in
-        record { answer = refused NotBuilt; due = compile.not_built other; only = due-not_thin text other }
+        record { answer = refused NotBuilt; due = compile.not_built other; only = due-not_thin text other; one_form = other_form text other }
   ]
 ]
 
@@ -186,15 +234,54 @@ only_runs text g within e thin answer (run.no_graph l other f) = absurd cc
 only_runs text g within e thin answer (run.not_built h t n) = absurd (n (subst IsThinGraph (sym (same_graph text g h e t.graph)) thin))
 only_runs text g within e thin answer (run.runs h t also) = ap ran (same_graph text g h e t.graph)
 
-by_graph : (text : List ℕ) → length text ≤ graph_text_limit → (read : Result Graph reading.Refusal) → graph_of text ≡ read → HasOneAnswer (IsDueRun text)
-by_graph text within (Err why) e = record { answer = refused (graph_refusal why); due = run.no_graph within why e; only = only_no_graph text why within e }
+long_graph_form : (text : List ℕ) → graph_text_limit < length text → (answer : Answer) (due : IsDueRun text answer) → graph_form_of text answer due ≡ one.GraphTextForm.too_long
+long_graph_form text long answer (run.too_long more) = refl
+long_graph_form text long answer (run.no_graph within why e) = absurd (omega arith)
+long_graph_form text long answer (run.not_built g t n) = absurd (omega (arith, t.within))
+long_graph_form text long answer (run.runs g t thin) = absurd (omega (arith, t.within))
+
+no_graph_form : (text : List ℕ) (why : reading.Refusal) → length text ≤ graph_text_limit → graph_of text ≡ Err why → (answer : Answer) (due : IsDueRun text answer) → graph_form_of text answer due ≡ one.GraphTextForm.no_graph
+no_graph_form text why within e answer (run.too_long long) = absurd (omega arith)
+no_graph_form text why within e answer (run.no_graph l other f) = refl
+no_graph_form text why within e answer (run.not_built g t n) = absurd (let f = t.graph in cc)
+no_graph_form text why within e answer (run.runs g t thin) = absurd (let f = t.graph in cc)
+
+other_graph_form : (text : List ℕ) (g : Graph) → length text ≤ graph_text_limit → graph_of text ≡ Ok g → (IsThinGraph g → ⊥) → (answer : Answer) (due : IsDueRun text answer) → graph_form_of text answer due ≡ one.GraphTextForm.not_built
+other_graph_form text g within e n answer (run.too_long long) = absurd (omega arith)
+other_graph_form text g within e n answer (run.no_graph l other f) = absurd cc
+other_graph_form text g within e n answer (run.not_built h t m) = refl
+other_graph_form text g within e n answer (run.runs h t thin) = absurd (n (subst IsThinGraph (same_graph text g h e t.graph) thin))
+
+run_form : (text : List ℕ) (g : Graph) → length text ≤ graph_text_limit → graph_of text ≡ Ok g → IsThinGraph g → (answer : Answer) (due : IsDueRun text answer) → graph_form_of text answer due ≡ one.GraphTextForm.runs
+run_form text g within e thin answer (run.too_long long) = absurd (omega arith)
+run_form text g within e thin answer (run.no_graph l other f) = absurd cc
+run_form text g within e thin answer (run.not_built h t n) = absurd (n (subst IsThinGraph (sym (same_graph text g h e t.graph)) thin))
+run_form text g within e thin answer (run.runs h t also) = refl
+
+by_graph : (text : List ℕ) → length text ≤ graph_text_limit → (read : Result Graph reading.Refusal) → graph_of text ≡ read → HasOneAnswer (IsDueRun text) (graph_form_of text)
+by_graph text within (Err why) e = record {
+  answer = refused (graph_refusal why);
+  due = run.no_graph within why e;
+  only = only_no_graph text why within e;
+  one_form = no_graph_form text why within e;
+}
 by_graph text within (Ok g) e = elim (thin_or_not g) [
-  | inl thin ↦ record { answer = ran g; due = run.runs g (record { within = within; graph = e }) thin; only = only_runs text g within e thin }
-  | inr n ↦ record { answer = refused NotBuilt; due = run.not_built g (record { within = within; graph = e }) n; only = only_not_built text g within e n }
+  | inl thin ↦ record {
+    answer = ran g;
+    due = run.runs g (record { within = within; graph = e }) thin;
+    only = only_runs text g within e thin;
+    one_form = run_form text g within e thin;
+  }
+  | inr n ↦ record {
+    answer = refused NotBuilt;
+    due = run.not_built g (record { within = within; graph = e }) n;
+    only = only_not_built text g within e n;
+    one_form = other_graph_form text g within e n;
+  }
 ]
 
 pub graph_texts_have_one_answer : GraphTextsHaveOneAnswer
 graph_texts_have_one_answer text = elim (cases_lt graph_text_limit (length text)) [
-  | inl long ↦ record { answer = refused TooLong; due = run.too_long long; only = only_long_graph text long }
+  | inl long ↦ record { answer = refused TooLong; due = run.too_long long; only = only_long_graph text long; one_form = long_graph_form text long }
   | inr within ↦ by_graph text within (graph_of text) refl
 ]

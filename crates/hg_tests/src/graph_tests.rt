@@ -22,6 +22,13 @@ const FREED: Port = Port {
     index: 0,
 };
 
+// Port 0 of a node.
+fn first_port(node: NodeId) -> Port
+    ensures { result.node ≡ node }
+{
+    Port { node, index: 0 }
+}
+
 // A module with a function that allocates a qubit and frees it.
 fn qubit_graph(alloc: Global) -> Result<Graph, AllocError>
     ensures { IfOk result (λ g. length g.nodes ≡ 6) }
@@ -50,16 +57,7 @@ fn qubit_graph(alloc: Global) -> Result<Graph, AllocError>
     )?;
     let source = graph.add_node(OpKind::Alloc, main)?;
     let target = graph.add_node(OpKind::Free, main)?;
-    graph.link(
-        Port {
-            node: source,
-            index: 0,
-        },
-        Port {
-            node: target,
-            index: 0,
-        },
-    )?;
+    graph.link(first_port(source), first_port(target))?;
     graph.order(source, target)?;
     Ok(graph)
 }

@@ -1,6 +1,7 @@
 mod Delivered
 mod Discards
 mod Due
+mod Made
 mod OneAnswer
 mod ReadSoFar
 mod Served

@@ -14,6 +14,7 @@ use Rattle.guppy_call.specs.RunDue as run
 use Rattle.guppy_call.specs.RunDue.{graph_text_limit, IsDueRun}
 use Rattle.guppy_call.specs.WordsFile.{Means, AnswersFile, failed, no_memory, read}
 use Rattle.guppy_call.specs.Input.{AreRead}
+use Rattle.guppy_call.specs.Modes.{limit_of, IsDueIn}
 use Rattle.guppy_call.specs.Words.{Meaning, meaning_of}
 use Rattle.guppy_call.specs.declared.words.Mode.{Mode}
 
@@ -79,29 +80,10 @@ graph_of gates = record {
 
 -- ---- what the words mean
 
-pub means : (m : Meaning) (words : List (List ℕ)) → Some m ≡ meaning_of words → Means words m.mode m.file
-means m words e = sym e
-
-pub same_file : (m : Meaning) (words : List (List ℕ)) (mode : Mode) (file : List ℕ) → Some m ≡ meaning_of words → Means words mode file → m.file ≡ file
-same_file m words mode file e means_it = let same : Some m ≡ Some (record { mode = mode; file = file }) = e ∙ means_it in cc
-
-pub same_mode : (m : Meaning) (words : List (List ℕ)) (mode : Mode) (file : List ℕ) → Some m ≡ meaning_of words → Means words mode file → m.mode ≡ mode
-same_mode m words mode file e means_it = let same : Some m ≡ Some (record { mode = mode; file = file }) = e ∙ means_it in cc
-
--- ---- a missing file
-
-no_text : (limit : ℕ) (held : Holdings) (file bytes : List ℕ) → IsMissing held file → AreRead held file limit bytes → ⊥
-no_text limit None file bytes missing are_read = missing
-no_text limit (Some holds) file bytes missing are_read =
-    let none : Some bytes ≡ None = sym are_read ∙ ap (option_map (front limit)) missing in
-    cc
-
--- the call for a missing file delivers that
-pub missed : (Due : List ℕ → Answer → Type 0) (limit : ℕ) (held : Holdings) (file : List ℕ) (call : Seen) → IsMissing held file
-    → AnswersFile Due limit held file call → (call.status ≡ status.Memory → Wrote call.out call.out_after [] × Wrote call.err call.err_after [])
-    → Delivers call (refused ReadFault)
-missed Due limit held file call missing (failed cause delivered) memory = delivered
-missed Due limit held file call missing (no_memory none) memory =
-    let unwritten = memory none in
-    inr (record { status = inr none; out = (0, unwritten.0); err = (0, unwritten.1) })
-missed Due limit held file call missing (read bytes are_read delivers) memory = absurd (no_text limit held file bytes missing are_read)
+-- what is answered for a request is answered for the mode and the file that the words mean
+pub served-as : (m : Meaning) (words : List (List ℕ)) (mode : Mode) (file : List ℕ) (held : Holdings) (call : Seen) → Some m ≡ meaning_of words → Means words mode file
+    → AnswersFile (IsDueIn m.mode) (limit_of m.mode) held m.file call → AnswersFile (IsDueIn mode) (limit_of mode) held file call
+served-as m words mode file held call e means_it served =
+    let same : Some m ≡ Some (record { mode = mode; file = file }) = e ∙ means_it in
+    let it : m ≡ record { mode = mode; file = file } = cc in
+    subst (λ (z : Meaning). AnswersFile (IsDueIn z.mode) (limit_of z.mode) held z.file call) it served

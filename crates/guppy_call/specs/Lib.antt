@@ -2,6 +2,7 @@ pub mod Call
 pub mod Compile
 pub mod Input
 pub mod Made
+pub mod Modes
 pub mod OneAnswer
 pub mod Refusal
 pub mod RunDue

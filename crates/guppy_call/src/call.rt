@@ -8,37 +8,37 @@ ghost use Rattle.hg_graph.specs.Thin.{ThinGate};
 ghost use Rattle.gp_lower.specs.Thin.{gate_lines, complete_lines};
 ghost use Rattle.guppy_call.specs.Call.{Answer, seen, refused, done, Answered, Delivers, Settles};
 ghost use Rattle.guppy_call.specs.Compile.{source_limit, IsThin, IsNotThin, spent_lines, given_up_at, held_at_return_at, IsDue, IsGraphOf};
+ghost use Rattle.guppy_call.specs.Modes.{limit_of, IsDueIn};
 ghost use Rattle.guppy_call.specs.RunDue.{graph_text_limit, IsDueRun};
 ghost use Rattle.guppy_call.specs.WordsFile.{Means, FileHolds, FileMissing, AnswersFile};
 ghost use Rattle.hg_json.specs.GraphText.{json};
 ghost use Rattle.guppy_call.specs.Words.{meaning_of};
+ghost use Rattle.guppy_call.specs.declared.words.Mode.{Mode};
 
-use crate::compile::compile_text;
 use crate::input::{InputError, read_input};
 use crate::mode_error::ModeError;
-use crate::output::{refuse, send};
+use crate::output::refuse;
+use crate::product::{product_of, write_product};
 use crate::refusal::Refusal;
-use crate::run::graph_to_run;
 use crate::status::Status;
-use crate::words::{Mode, request_of};
-use gp_base::{Files, Names, SOURCE_LIMIT, Sink};
-use hg_json::MAX_TEXT_BYTES;
-use hg_run::{RunFault, run_thin};
+use crate::words::{Request, request_of};
+use gp_base::{Files, Names, Sink};
 use std::alloc::Global;
 
-// Compiles a file.
-fn compile<F: Files, O: Sink, E: Sink>(
+// Reads the input that a request names, makes of it what its mode says, and writes that.
+fn serve<F: Files, O: Sink, E: Sink>(
     alloc: Global,
-    file: &str,
+    request: Request<'_>,
     files: &mut F,
     out: &mut O,
     err: &mut E,
 ) -> Status
-    ensures compiled { AnswersFile IsDue source_limit (F.held files.old) file.now
+    ensures served { AnswersFile (IsDueIn request.entry.mode) (limit_of request.entry.mode)
+        (F.held files.old) request.entry.file.now
         (seen result (F.faults files.old) (F.faults files.new)
         (O.bytes out.old) (O.bytes out.new) (E.bytes err.old) (E.bytes err.new)) }
     ensures read_fault { result ≡ Status.ReadFault
-        → Rose (F.faults files.old) (F.faults files.new) ⊎ IsMissing (F.held files.old) file.now }
+        → Rose (F.faults files.old) (F.faults files.new) ⊎ IsMissing (F.held files.old) request.entry.file.now }
     ensures write_fault { result ≡ Status.WriteFault
         → Rose (O.faults out.old) (O.faults out.new) ⊎ Rose (E.faults err.old) (E.faults err.new) }
     ensures memory { result ≡ Status.Memory
@@ -46,52 +46,15 @@ fn compile<F: Files, O: Sink, E: Sink>(
     ensures words { result ≢ Status.Words }
     ensures stopped { result ≢ Status.Stopped }
 {
-    let text = match read_input(alloc, files, file, SOURCE_LIMIT) {
+    let text = match read_input(alloc, files, request.file, request.mode.limit()) {
         Ok(text) => text,
         Err(InputError::Failed) => return refuse(alloc, err, Refusal::ReadFault),
         Err(InputError::Memory) => return Status::Memory,
     };
-    match compile_text(alloc, &text) {
-        Ok(line) => send(out, &line, Status::Done),
+    match product_of(alloc, request.mode, &text) {
+        Ok(product) => write_product(alloc, &product, out),
         Err(ModeError::Refused(refusal)) => refuse(alloc, err, refusal),
         Err(ModeError::Memory) => Status::Memory,
-    }
-}
-
-// Runs the graph of a file.
-fn run<F: Files, O: Sink, E: Sink>(
-    alloc: Global,
-    file: &str,
-    files: &mut F,
-    out: &mut O,
-    err: &mut E,
-) -> Status
-    ensures ran { AnswersFile IsDueRun graph_text_limit (F.held files.old) file.now
-        (seen result (F.faults files.old) (F.faults files.new)
-        (O.bytes out.old) (O.bytes out.new) (E.bytes err.old) (E.bytes err.new)) }
-    ensures read_fault { result ≡ Status.ReadFault
-        → Rose (F.faults files.old) (F.faults files.new) ⊎ IsMissing (F.held files.old) file.now }
-    ensures write_fault { result ≡ Status.WriteFault
-        → Rose (O.faults out.old) (O.faults out.new) ⊎ Rose (E.faults err.old) (E.faults err.new) }
-    ensures memory { result ≡ Status.Memory
-        → Wrote (O.bytes out.old) (O.bytes out.new) [] × Wrote (E.bytes err.old) (E.bytes err.new) [] }
-    ensures words { result ≢ Status.Words }
-    ensures stopped { result ≢ Status.Stopped }
-{
-    let text = match read_input(alloc, files, file, MAX_TEXT_BYTES) {
-        Ok(text) => text,
-        Err(InputError::Failed) => return refuse(alloc, err, Refusal::ReadFault),
-        Err(InputError::Memory) => return Status::Memory,
-    };
-    let graph = match graph_to_run(alloc, &text) {
-        Ok(graph) => graph,
-        Err(ModeError::Refused(refusal)) => return refuse(alloc, err, refusal),
-        Err(ModeError::Memory) => return Status::Memory,
-    };
-    match run_thin(alloc, &graph, out) {
-        Ok(()) => Status::Done,
-        Err(RunFault::WriteFault) => Status::WriteFault,
-        Err(RunFault::Memory) => Status::Memory,
     }
 }
 
@@ -180,8 +143,5 @@ pub fn guppy<F: Files, O: Sink, E: Sink>(
     let Some(request) = request_of(words) else {
         return refuse(alloc, err, Refusal::WordsNotUnderstood);
     };
-    match request.mode {
-        Mode::Compile => compile(alloc, request.file, files, out, err),
-        Mode::Run => run(alloc, request.file, files, out, err),
-    }
+    serve(alloc, request, files, out, err)
 }

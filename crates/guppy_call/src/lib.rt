@@ -8,6 +8,7 @@ pub mod input;
 pub mod laws;
 mod mode_error;
 mod output;
+mod product;
 mod refusal;
 mod run;
 pub mod status;

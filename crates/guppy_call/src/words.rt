@@ -4,7 +4,8 @@ ghost use Rattle.std.specs.Prelude.{◌≡◌};
 ghost use Rattle.std.specs.Option.{option_map};
 ghost use Rattle.guppy_call.specs.Words.{meaning_of, request_view, is_file_name, mode_named};
 
-use gp_base::Names;
+use gp_base::{Names, SOURCE_LIMIT};
+use hg_json::MAX_TEXT_BYTES;
 
 /// What the program is asked to do.
 #[derive(Clone, Copy, Debug, PartialEq, Eq)]
@@ -13,6 +14,20 @@ pub enum Mode {
     Compile,
     /// Run a graph.
     Run,
+}
+
+impl Mode {
+    ghost use Rattle.guppy_call.specs.Modes.{limit_of};
+
+    /// The most bytes of an input of this mode.
+    pub fn limit(self) -> usize
+        ensures { result ≡ limit_of self }
+    {
+        match self {
+            Mode::Compile => SOURCE_LIMIT,
+            Mode::Run => MAX_TEXT_BYTES,
+        }
+    }
 }
 
 /// What the words of a command line mean: a mode, and the name of the file that it reads.

@@ -3,6 +3,10 @@
 #![tactic(auto)]
 
 #[cfg(test)]
+mod form_tests;
+#[cfg(test)]
 mod front_tests;
+#[cfg(test)]
+mod lex_tests;
 #[cfg(test)]
 mod parse_tests;

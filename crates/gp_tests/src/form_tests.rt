@@ -12,6 +12,7 @@ fn a_line_has_its_form(rt: HostRuntime) -> Result<(), Fail> {
     let line = found.get(0).ok_or("no line")?;
     let form = line_form(rt.alloc(), line).ok();
     assert!(rt; matches!(form, Some(LineForm::Pass)));
+    drop(form);
     Ok(())
 }
 

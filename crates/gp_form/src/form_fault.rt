@@ -1,7 +1,6 @@
 //! Why a line has no form.
 
 use gp_base::LineNo;
-use std::alloc::{AllocError, AllocFailed};
 
 /// Why a line has no form. A line's number is that of its first physical line, counted from 1.
 #[derive(Clone, Copy)]

@@ -8,7 +8,7 @@ use gp_lex::{Symbol, Token};
 use gp_tree::BinOp;
 
 /// How a token assigns.
-#[derive(Clone, Copy, Debug, PartialEq, Eq)]
+#[derive(Clone, Copy)]
 pub enum Assigning {
     /// `=`: the value alone.
     Plain,

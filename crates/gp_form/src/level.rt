@@ -11,7 +11,7 @@ use gp_tree::{BinOp, Expr};
 use std::alloc::{AllocError, Global};
 
 /// A level of the grammar of expressions, by the names of Python's grammar, the loosest first.
-#[derive(Clone, Copy, Debug, PartialEq, Eq)]
+#[derive(Clone, Copy)]
 pub enum Level {
     /// Any expression, `a if c else b` among them.
     Whole,
@@ -34,7 +34,7 @@ pub enum Level {
 }
 
 /// What joins two operands.
-#[derive(Clone, Copy, Debug, PartialEq, Eq)]
+#[derive(Clone, Copy)]
 pub enum Join {
     /// `and`
     And,

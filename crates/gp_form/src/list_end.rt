@@ -8,7 +8,7 @@ use crate::step::past_symbol;
 use gp_lex::{Symbol, Token};
 
 /// What stands behind the last of some expressions with commas between them.
-#[derive(Clone, Copy, Debug, PartialEq, Eq)]
+#[derive(Clone, Copy)]
 pub enum ListEnd {
     /// A closing parenthesis.
     Paren,

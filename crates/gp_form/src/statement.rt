@@ -1,6 +1,7 @@
 //! Reads simple statements, and the two other forms that no keyword leads: fields and module calls.
 
 ghost use Rattle.std.specs.Prelude.{◌≡◌, IsTrue, ◌↔◌};
+ghost use Rattle.gp_form.specs.declared.part_fault.PartFault.TheVariants.{NotSpelled};
 ghost use Rattle.gp_form.specs.code.FormReading as spec;
 ghost use Rattle.gp_form.specs.code.Steps.{Finds, Gives};
 ghost use Rattle.gp_tree.specs.Expression.{expression};
@@ -57,8 +58,16 @@ pub fn alone(read: LineForm, rest: &[Token]) -> Result<LineForm, PartFault>
 {
     match past_end(rest, ListEnd::Line) {
         Some(_) => Ok(read),
-        None => Err(PartFault::NotSpelled),
+        None => Err(refused(read)),
     }
+}
+
+/// The fault of tokens that read as a form and are none.
+fn refused(read: LineForm) -> PartFault
+    ensures { result ≡ NotSpelled }
+{
+    drop(read);
+    PartFault::NotSpelled
 }
 
 /// What stands behind `return`.

@@ -19,7 +19,7 @@ use crate::form_line::FormLine;
 use crate::open_blocks::{Frame, Header, Opening};
 use crate::parse_fault::ParseFault;
 use crate::position::{OpenFunction, Position};
-use crate::simple_line::simple_statement;
+use crate::simple_line::{misplaced, simple_statement};
 use gp_base::{LineNo, Name, Stack};
 use gp_tree::{
     Block, FieldDecl, FieldDecls, Function, Import, Item, LineForm, Program, StructDecl,
@@ -38,7 +38,7 @@ fn top_line(
     if indent == 0 {
         top_form(items, line, form)
     } else {
-        Err(ParseFault::Nesting(line))
+        Err(misplaced(line, form))
     }
 }
 
@@ -49,7 +49,7 @@ fn top_form(items: &mut Program, line: LineNo, form: LineForm) -> Result<Positio
     match form {
         LineForm::FunctionDecorator => Ok(Position::FunctionMarked(line)),
         LineForm::StructDecorator => Ok(Position::ClassMarked(line)),
-        _ => whole_item(items, line, form),
+        form => whole_item(items, line, form),
     }
 }
 
@@ -69,7 +69,7 @@ fn whole_item(items: &mut Program, line: LineNo, form: LineForm) -> Result<Posit
         LineForm::Docstring => Ok(Position::Between),
         LineForm::Pass => Ok(Position::Between),
         LineForm::ModuleCall(_) => Ok(Position::Between),
-        _ => Err(ParseFault::Nesting(line)),
+        other => Err(misplaced(line, other)),
     }
 }
 
@@ -95,7 +95,7 @@ fn def_line(
             };
             begin_function(alloc, items, function, behind)
         }
-        _ => Err(ParseFault::Nesting(line)),
+        other => Err(misplaced(line, other)),
     }
 }
 
@@ -167,7 +167,7 @@ fn class_line(
 {
     match form {
         LineForm::Class(name) => Ok(Position::ClassBegun(mark, line, name)),
-        _ => Err(ParseFault::Nesting(line)),
+        other => Err(misplaced(line, other)),
     }
 }
 
@@ -189,7 +189,7 @@ fn class_member(
         }
         LineForm::Docstring => Ok(Position::InClass(indent, class)),
         LineForm::Pass => Ok(Position::InClass(indent, class)),
-        _ => Err(ParseFault::Nesting(line)),
+        other => Err(misplaced(line, other)),
     }
 }
 

@@ -6,6 +6,7 @@ ghost use Rattle.gp_tree.specs.Form as forms;
 ghost use Rattle.gp_tree.specs.Statement as stmts;
 ghost use Rattle.gp_tree.specs.Statement.{statement};
 ghost use Rattle.gp_tree.specs.declared.place.Targets.TheVariants.{One};
+ghost use Rattle.gp_parse.specs.declared.parse_fault.ParseFault.TheVariants.{Nesting};
 ghost use Rattle.gp_parse.specs.code.NestingCode as spec;
 ghost use Rattle.gp_parse.specs.code.NestingViews.{Follows};
 
@@ -13,6 +14,14 @@ use crate::parse_fault::ParseFault;
 use gp_base::{LineNo, Name, Names};
 use gp_tree::{BinOp, Expr, LineForm, Place, Stmt, Targets};
 use std::alloc::{AllocError, Global};
+
+/// The fault of a form that may not stand on this line.
+pub fn misplaced(line: LineNo, form: LineForm) -> ParseFault
+    ensures { result ≡ Nesting line }
+{
+    drop(form);
+    ParseFault::Nesting(line)
+}
 
 /// The statement that a simple form is, on its line.
 pub fn simple_statement(
@@ -45,7 +54,7 @@ pub fn simple_statement(
             }
         }
         LineForm::Pass => Ok(Stmt::Pass(line)),
-        _ => Err(ParseFault::Nesting(line)),
+        other => Err(misplaced(line, other)),
     }
 }
 

@@ -9,7 +9,11 @@ use std::alloc::{AllocError, Global};
 // A line's form, or why it has none.
 fn told_form(alloc: Global, line: &LogicalLine) -> Result<String, AllocError> {
     match line_form(alloc, line) {
-        Ok(form) => format!(in alloc; "{form:?}"),
+        Ok(form) => {
+            let told = format!(in alloc; "{form:?}");
+            drop(form);
+            told
+        }
         Err(fault) => told_code(alloc, form_code(fault)),
     }
 }

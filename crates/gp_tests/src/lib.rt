@@ -9,7 +9,11 @@ mod callee_tests;
 #[cfg(test)]
 mod environment_tests;
 #[cfg(test)]
+mod form_tests;
+#[cfg(test)]
 mod front_tests;
+#[cfg(test)]
+mod lex_tests;
 #[cfg(test)]
 mod parse_tests;
 #[cfg(test)]

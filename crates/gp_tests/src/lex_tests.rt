@@ -1,9 +1,8 @@
-//! Each public call once. The lines, the tokens and the faults of texts are in the tables of `gp_rows`.
+//! Each public call of `gp_lex` once. The lines, the tokens and the faults of texts are in the tables of `gp_rows`.
 
-use crate::fault::LexFault;
-use crate::laws::{lines_or_fault, pieces_are_one};
-use crate::reader::lines;
 use gp_base::LineNo;
+use gp_lex::laws::{lines_or_fault, pieces_are_one};
+use gp_lex::{LexFault, lines};
 use std::test::Fail;
 
 #[test]
@@ -20,13 +19,13 @@ fn a_text_has_its_lines(rt: HostRuntime) -> Result<(), Fail> {
 }
 
 #[test]
-fn a_text_has_its_first_fault(rt: HostRuntime) {
+fn a_tab_before_a_line_is_a_fault(rt: HostRuntime) {
     let fault = lines(rt.alloc(), b"\tpass\n").err();
     assert!(rt; matches!(fault, Some(LexFault::TabIndent(LineNo(1)))));
 }
 
 #[test]
-fn the_laws_can_be_called() {
+fn laws_of_tokens_can_be_called() {
     pieces_are_one();
     lines_or_fault();
 }

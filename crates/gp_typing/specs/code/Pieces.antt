@@ -32,6 +32,10 @@ named frame e line name ty = check (not (frame.is_borrowed name)) (BorrowedAssig
 abbrev pub written : Known → LineNo → Ty → Checked (Unit {0})
 written known line its = found (known.annotated_at line) (Mismatch line) >>= λ ty. check (same_type ty its) (Mismatch line)
 
+-- a name that takes the type of the value, which is the written type of the line
+abbrev pub put_written : Known → Frame → Environment → LineNo → List ℕ → Ty → Checked Environment
+put_written known frame e line name its = written known line its >>= λ _. named frame e line name its
+
 abbrev pub ended_annotated : Known → Frame → Environment → LineNo → List ℕ → TypeExpression → Checked Value → Checked StatementTyping
 ended_annotated known frame e line name ty value =
     value

@@ -123,6 +123,20 @@ fn boxed(alloc: Global, value: Value) -> Result<Box<TypedExpr>, AllocError>
     Ok(Box::new(alloc, into_expr(value))?)
 }
 
+// Two values as expressions on the heap.
+fn boxed_pair(
+    alloc: Global,
+    left: Value,
+    right: Value,
+) -> Result<(Box<TypedExpr>, Box<TypedExpr>), AllocError>
+    ensures left { IfOk result (λ made. expression_view made.0.value ≡ (value_view left).tree) }
+    ensures right { IfOk result (λ made. expression_view made.1.value ≡ (value_view right).tree) }
+{
+    let left = boxed(alloc, left)?;
+    let right = boxed(alloc, right)?;
+    Ok((left, right))
+}
+
 /// A minus sign before an operand.
 pub fn minus(alloc: Global, line: LineNo, operand: Value) -> Result<TypedExpr, TypeFault>
     ensures { Answers expression_view result (minus_of line (value_view operand)) }
@@ -158,8 +172,7 @@ pub fn binary(
     let Some(ty) = answer_of(op, &left, &right) else {
         return Err(TypeFault::Mismatch(line));
     };
-    let left = boxed(alloc, left)?;
-    let right = boxed(alloc, right)?;
+    let (left, right) = boxed_pair(alloc, left, right)?;
     Ok(of_type(ty, TypedKind::Binary(op, left, right)))
 }
 
@@ -170,8 +183,7 @@ pub fn both(alloc: Global, line: LineNo, left: Value, right: Value) -> Result<Ty
     if !are_bools(&left, &right) {
         return Err(TypeFault::Mismatch(line));
     }
-    let left = boxed(alloc, left)?;
-    let right = boxed(alloc, right)?;
+    let (left, right) = boxed_pair(alloc, left, right)?;
     Ok(of_type(Ty::Bool, TypedKind::And(left, right)))
 }
 
@@ -187,8 +199,7 @@ pub fn either(
     if !are_bools(&left, &right) {
         return Err(TypeFault::Mismatch(line));
     }
-    let left = boxed(alloc, left)?;
-    let right = boxed(alloc, right)?;
+    let (left, right) = boxed_pair(alloc, left, right)?;
     Ok(of_type(Ty::Bool, TypedKind::Or(left, right)))
 }
 
@@ -212,9 +223,8 @@ fn chosen(alloc: Global, test: Value, value: Value, other: Value) -> Result<Type
         ≡ typed.of_type (Some (ty_view value.ty)) (typed.choice (value_view test).tree (value_view value).tree (value_view other).tree)) }
 {
     let ty = copy_type(&value)?;
+    let (value, other) = boxed_pair(alloc, value, other)?;
     let test = boxed(alloc, test)?;
-    let value = boxed(alloc, value)?;
-    let other = boxed(alloc, other)?;
     Ok(of_type(ty, TypedKind::Choice(test, value, other)))
 }
 

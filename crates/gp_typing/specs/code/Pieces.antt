@@ -70,7 +70,11 @@ joined_block b rest = record { trees = append_statements b.trees rest.trees; end
 abbrev pub with_typed : BlockTyping → List NameType → StatementTyping → BlockTyping
 with_typed b before s = record { trees = append_statements b.trees (with_statement (behind before s.kind) no_statements); ends = after b.ends s.ends }
 
--- the same where the types of the usable names behind it are within the limit
+-- a statement where the types of the usable names behind it are within the limit
+abbrev pub kept_within : LineNo → StatementTyping → Checked StatementTyping
+kept_within line s = check (is_within s.ends.next) (TooManyPlaces line) >>= λ _. Ok s
+
+-- a block with one more statement, where the types of the usable names behind it are within the limit
 abbrev pub ended_next : LineNo → BlockTyping → List NameType → StatementTyping → Checked BlockTyping
 ended_next line b before s = check (is_within s.ends.next) (TooManyPlaces line) >>= λ _. Ok (with_typed b before s)
 

@@ -4,10 +4,14 @@ ghost use Rattle.std.specs.Prelude.{◌≡◌, IfOk, None, is_some};
 ghost use Rattle.gp_tree.specs.Expression.{expression};
 ghost use Rattle.gp_locals.specs.Environment as env;
 ghost use Rattle.gp_typing.specs.Statements as spec;
-ghost use Rattle.gp_typing.specs.code.StatementView.{ends_view, block_view, statement_view};
+ghost use Rattle.gp_typing.specs.code.StatementView.{ends_view, block_view};
+ghost use Rattle.gp_typing.specs.Checks.{Answers};
+ghost use Rattle.gp_typing.specs.code.Pieces.{kept_within};
 ghost use Rattle.gp_typing.specs.View as view;
 
+use crate::fault::TypeFault;
 use crate::typed::{TypedBlock, TypedStmtKind, TypedStmts};
+use gp_base::LineNo;
 use gp_locals::Environment;
 use gp_tree::Expr;
 use std::alloc::{AllocError, Global};
@@ -71,7 +75,7 @@ pub fn join_reached(
 }
 
 /// The ends of one block after another.
-pub fn after(alloc: Global, first: Ends, second: Ends) -> Result<Ends, AllocError>
+fn after(alloc: Global, first: Ends, second: Ends) -> Result<Ends, AllocError>
     ensures { IfOk result (λ ends. ends_view ends ≡ spec.after (ends_view first) (ends_view second)) }
 {
     let breaks = join_reached(alloc, first.breaks, second.breaks)?;
@@ -124,11 +128,19 @@ fn is_within_reached(there: &Option<Environment>) -> bool
     }
 }
 
-/// Whether the types of the usable names at the statement's end have a total size within the limit, where it is reached.
-pub fn ends_within(typed: &StatementTyping) -> bool
-    ensures { result ≡ env.is_within (statement_view typed.now).ends.next }
+/// The ends of one block after another, where the types of the usable names at the second's end are within the limit.
+pub fn after_within(
+    alloc: Global,
+    line: LineNo,
+    first: Ends,
+    second: Ends,
+) -> Result<Ends, TypeFault>
+    ensures { Answers ends_view result (kept_within line (ends_view first) (ends_view second)) }
 {
-    is_within_reached(&typed.ends.next)
+    if !is_within_reached(&second.next) {
+        return Err(TypeFault::TooManyPlaces(line));
+    }
+    Ok(after(alloc, first, second)?)
 }
 
 // The test `True`, which never ends a loop.

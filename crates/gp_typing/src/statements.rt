@@ -13,7 +13,7 @@ ghost use Rattle.gp_typing.specs.code.StatementView.{block_view, statement_view,
 ghost use Rattle.gp_typing.specs.code.Compound.{if_in, while_in, for_in, next_in};
 ghost use Rattle.gp_typing.specs.code.ExpressionView.{value_view};
 ghost use Rattle.gp_locals.specs.Environment as env;
-ghost use Rattle.gp_typing.specs.code.Pieces.{tested, counted, named, written, put_written, ended_annotated, ended_if, ended_while, ended_for, ended_next, kept_within, append_statements, with_typed, next_of};
+ghost use Rattle.gp_typing.specs.code.Pieces.{tested, counted, named, written, put_written, ended_annotated, ended_if, ended_while, ended_for, ended_next, append_statements};
 ghost use Rattle.gp_typing.specs.Typed as typed;
 ghost use Rattle.gp_typing.specs.Typed.{behind, no_statements, with_statement};
 ghost use Rattle.gp_locals.specs.View.{name_view};
@@ -21,8 +21,8 @@ ghost use Rattle.gp_typing.specs.View.{expression_view, statement_kind_view, sta
 
 use crate::assignments::{assign_name, assign_targets};
 use crate::ends::{
-    BlockTyping, Ends, StatementTyping, after, after_while, comes_back, ends_within, goes_on,
-    into_loop, into_parts, join_reached, one_of,
+    BlockTyping, Ends, StatementTyping, after_while, after_within, comes_back, goes_on, into_loop,
+    into_parts, join_reached, one_of,
 };
 use crate::fault::TypeFault;
 use crate::frame::{Frame, expr_in, value_in};
@@ -95,35 +95,13 @@ fn add_statement(
 ) -> Result<BlockTyping, TypeFault>
     ensures { Answers block_view result (ended_next line (block_view block) (map name_view before) (statement_view typed)) }
 {
-    let typed = within(line, typed)?;
-    Ok(append(alloc, block, before, typed)?)
-}
-
-// The statement, where the types of the usable names at its end are within the limit.
-fn within(line: LineNo, typed: StatementTyping) -> Result<StatementTyping, TypeFault>
-    ensures { Answers statement_view result (kept_within line (statement_view typed)) }
-{
-    if !ends_within(&typed) {
-        return Err(TypeFault::TooManyPlaces(line));
-    }
-    Ok(typed)
-}
-
-fn append(
-    alloc: Global,
-    block: BlockTyping,
-    before: NameTypes,
-    typed: StatementTyping,
-) -> Result<BlockTyping, AllocError>
-    ensures { IfOk result (λ made. block_view made ≡ with_typed (block_view block) (map name_view before) (statement_view typed)) }
-{
     let StatementTyping { kind, ends } = typed;
     let BlockTyping {
         mut stmts,
         ends: so_far,
     } = block;
     append_statement(&mut stmts, before, kind)?;
-    let ends = after(alloc, so_far, ends)?;
+    let ends = after_within(alloc, line, so_far, ends)?;
     Ok(BlockTyping { stmts, ends })
 }
 

@@ -12,7 +12,7 @@ use Rattle.gp_typing.specs.Checks.{Checked, ◌>>=◌, check, found}
 use Rattle.gp_locals.specs.Environment.{Environment, NameType, is_within, join_reached, put, usable}
 use Rattle.gp_typing.specs.Expressions.{Value, is_bool, is_int}
 use Rattle.gp_scope.specs.Known.{Known}
-use Rattle.gp_typing.specs.Statements.{Frame, StatementTyping, BlockTyping, after, after_while, block_of, block_typing, comes_back, goes_on, line_of, one_of, statement_typing, typed_as}
+use Rattle.gp_typing.specs.Statements.{Frame, Ends, StatementTyping, BlockTyping, after, after_while, block_of, block_typing, comes_back, goes_on, line_of, one_of, statement_typing, typed_as}
 use Rattle.gp_typing.specs.Typed as typed
 use Rattle.gp_typing.specs.Typed.{TypedExpression, TypedStatements, no_statements, with_statement, behind}
 
@@ -70,9 +70,9 @@ joined_block b rest = record { trees = append_statements b.trees rest.trees; end
 abbrev pub with_typed : BlockTyping → List NameType → StatementTyping → BlockTyping
 with_typed b before s = record { trees = append_statements b.trees (with_statement (behind before s.kind) no_statements); ends = after b.ends s.ends }
 
--- a statement where the types of the usable names behind it are within the limit
-abbrev pub kept_within : LineNo → StatementTyping → Checked StatementTyping
-kept_within line s = check (is_within s.ends.next) (TooManyPlaces line) >>= λ _. Ok s
+-- one after another, where the types of the usable names at the second's end are within the limit
+abbrev pub kept_within : LineNo → Ends → Ends → Checked Ends
+kept_within line first second = check (is_within second.next) (TooManyPlaces line) >>= λ _. Ok (after first second)
 
 -- a block with one more statement, where the types of the usable names behind it are within the limit
 abbrev pub ended_next : LineNo → BlockTyping → List NameType → StatementTyping → Checked BlockTyping

@@ -205,7 +205,8 @@ pub fn either(
 
 // Whether the first is a truth value, and the others have one type.
 fn is_choice(test: &Value, value: &Value, other: &Value) -> bool
-    ensures { result ≡ (spec.is_bool (ty_view test.now.ty) && same_type (ty_view value.now.ty) (ty_view other.now.ty)) }
+    ensures { result
+        ≡ (spec.is_bool (ty_view test.now.ty) && same_type (ty_view value.now.ty) (ty_view other.now.ty)) }
 {
     is_bool(&test.ty) && same_type(&value.ty, &other.ty)
 }
@@ -220,7 +221,8 @@ fn copy_type(value: &Value) -> Result<Ty, AllocError>
 // The choice between two values of one type.
 fn chosen(alloc: Global, test: Value, value: Value, other: Value) -> Result<TypedExpr, AllocError>
     ensures { IfOk result (λ made. expression_view made
-        ≡ typed.of_type (Some (ty_view value.ty)) (typed.choice (value_view test).tree (value_view value).tree (value_view other).tree)) }
+        ≡ typed.of_type (Some (ty_view value.ty))
+        (typed.choice (value_view test).tree (value_view value).tree (value_view other).tree)) }
 {
     let ty = copy_type(&value)?;
     let (value, other) = boxed_pair(alloc, value, other)?;

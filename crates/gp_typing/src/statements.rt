@@ -308,7 +308,8 @@ fn annotated(
     written: &TypeExpr,
     value: Value,
 ) -> Result<TypedStmtKind, AllocError>
-    ensures { IfOk result (λ made. statement_kind_view made ≡ typed.annotated line name.now (type_expression written.now) (value_view value).tree) }
+    ensures { IfOk result (λ made. statement_kind_view made
+        ≡ typed.annotated line name.now (type_expression written.now) (value_view value).tree) }
 {
     let name = name.copy()?;
     let written = written.copy(alloc)?;
@@ -517,7 +518,8 @@ fn while_ended(
     head: Environment,
     body: BlockTyping,
 ) -> Result<StatementTyping, AllocError>
-    ensures { IfOk result (λ made. Ok (statement_view made) ≡ spec.typed_as (typed.while_loop line (expression_view test) (spec.block_of (block_view body)))
+    ensures { IfOk result (λ made. Ok (statement_view made)
+        ≡ spec.typed_as (typed.while_loop line (expression_view test) (spec.block_of (block_view body)))
         (spec.goes_on (spec.after_while (expression written.now) head (block_view body).ends.breaks))) }
 {
     let (block, breaks) = into_loop(body);
@@ -554,7 +556,8 @@ fn for_ended(
     head: Environment,
     body: BlockTyping,
 ) -> Result<StatementTyping, AllocError>
-    ensures { IfOk result (λ made. Ok (statement_view made) ≡ spec.typed_as (typed.for_loop line name.now (expression_view count) (spec.block_of (block_view body)))
+    ensures { IfOk result (λ made. Ok (statement_view made)
+        ≡ spec.typed_as (typed.for_loop line name.now (expression_view count) (spec.block_of (block_view body)))
         (spec.goes_on (env.join_reached (Some head) (block_view body).ends.breaks))) }
 {
     let name = name.copy()?;

@@ -4,7 +4,7 @@ use gp_base::LineNo;
 use std::alloc::{AllocError, AllocFailed};
 
 /// What is wrong with a program's types, with the line where it is.
-#[derive(Clone, Copy, Debug, PartialEq, Eq)]
+#[derive(Clone, Copy, Debug)]
 pub enum TypeFault {
     /// A name that is none of the function's own, a field that its type doesn't have, or a call of something that
     /// can't be called.

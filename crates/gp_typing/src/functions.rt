@@ -12,7 +12,7 @@ ghost use Rattle.gp_scope.specs.ScopeView.{known_in};
 ghost use Rattle.gp_typing.specs.code.StatementView.{frame_view, known_for};
 ghost use Rattle.gp_typing.specs.View.{block_view, function_view};
 
-use crate::ends::{BlockTyping, into_block};
+use crate::ends::{into_block, reaches_end};
 use crate::fault::TypeFault;
 use crate::frame::Frame;
 use crate::statements::check_block;
@@ -70,11 +70,10 @@ fn check_body(
         return Err(TypeFault::TooManyPlaces(line));
     }
     let body = check_block(alloc, body, frame, Some(start))?;
-    if frame.signature.result.is_some() && body.ends.next.is_some() {
+    if frame.signature.result.is_some() && reaches_end(&body) {
         return Err(TypeFault::MissingReturn(line));
     }
-    let BlockTyping { stmts, ends } = body;
-    Ok(into_block(stmts, &ends))
+    Ok(into_block(body))
 }
 
 // What is usable where a function begins: its parameters.

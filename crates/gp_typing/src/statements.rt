@@ -11,7 +11,9 @@ ghost use Rattle.gp_typing.specs.Checks.{Answers};
 ghost use Rattle.gp_typing.specs.Statements as spec;
 ghost use Rattle.gp_typing.specs.code.StatementView.{block_view, statement_view, frame_view, known_for, value_in, statement_in, block_in};
 ghost use Rattle.gp_typing.specs.code.Compound.{if_in, while_in, for_in, next_in};
-ghost use Rattle.gp_typing.specs.code.Pieces.{tested, counted, named, written, ended_annotated, ended_if, ended_while, ended_for, ended_next, append_statements, with_typed, next_of};
+ghost use Rattle.gp_typing.specs.code.ExpressionView.{value_view};
+ghost use Rattle.gp_locals.specs.Environment as env;
+ghost use Rattle.gp_typing.specs.code.Pieces.{tested, counted, named, written, put_written, ended_annotated, ended_if, ended_while, ended_for, ended_next, append_statements};
 ghost use Rattle.gp_typing.specs.Typed as typed;
 ghost use Rattle.gp_typing.specs.Typed.{behind, no_statements, with_statement};
 ghost use Rattle.gp_locals.specs.View.{name_view};
@@ -19,14 +21,14 @@ ghost use Rattle.gp_typing.specs.View.{expression_view, statement_kind_view, sta
 
 use crate::assignments::{assign_name, assign_targets};
 use crate::ends::{
-    BlockTyping, Ends, StatementTyping, after, after_while, comes_back, goes_on, into_block,
-    is_within_reached, join_reached, one_of,
+    BlockTyping, Ends, StatementTyping, after_while, after_within, comes_back, goes_on, into_loop,
+    into_parts, join_reached, one_of,
 };
 use crate::fault::TypeFault;
 use crate::frame::{Frame, expr_in, value_in};
-use crate::operators::{is_bool, is_int};
+use crate::operators::{is_bool_value, is_int_value};
 use crate::typed::{TypedExpr, TypedStmt, TypedStmtKind, TypedStmts};
-use crate::value::into_expr;
+use crate::value::{Value, into_expr};
 use gp_base::{LineNo, Name};
 use gp_locals::{Environment, NameTypes};
 use gp_tree::{Expr, Stmt, Targets, TypeExpr};
@@ -93,27 +95,13 @@ fn add_statement(
 ) -> Result<BlockTyping, TypeFault>
     ensures { Answers block_view result (ended_next line (block_view block) (map name_view before) (statement_view typed)) }
 {
-    if !is_within_reached(&typed.ends.next) {
-        return Err(TypeFault::TooManyPlaces(line));
-    }
-    Ok(append(alloc, block, before, typed)?)
-}
-
-fn append(
-    alloc: Global,
-    block: BlockTyping,
-    before: NameTypes,
-    typed: StatementTyping,
-) -> Result<BlockTyping, AllocError>
-    ensures { IfOk result (λ made. block_view made ≡ with_typed (block_view block) (map name_view before) (statement_view typed)) }
-{
     let StatementTyping { kind, ends } = typed;
     let BlockTyping {
         mut stmts,
         ends: so_far,
     } = block;
     append_statement(&mut stmts, before, kind)?;
-    let ends = after(alloc, so_far, ends)?;
+    let ends = after_within(alloc, line, so_far, ends)?;
     Ok(BlockTyping { stmts, ends })
 }
 
@@ -253,12 +241,26 @@ fn check_assign(
         (statement_in frame.now environment (stmt.assign line targets.now (expression value.now))) }
 {
     let value = value_in(alloc, frame, &environment, line, value)?;
-    assign_targets(frame, &mut environment, line, targets, &value.ty)?;
+    put_targets(frame, &mut environment, line, targets, &value)?;
     let targets = targets.copy(alloc)?;
     Ok(StatementTyping {
         kind: TypedStmtKind::Assign(line, targets, into_expr(value)),
         ends: goes_on(Some(environment)),
     })
+}
+
+// The targets take the type of the value.
+fn put_targets(
+    frame: &Frame<'_>,
+    environment: &mut Environment,
+    line: LineNo,
+    targets: &Targets,
+    value: &Value,
+) -> Result<(), TypeFault>
+    ensures { Answers (λ _. environment.new) result
+        (spec.assigned (frame_view frame.now) environment.old line targets.now (ty_view value.now.ty)) }
+{
+    assign_targets(frame, environment, line, targets, &value.ty)
 }
 
 // `name: type = value`: the value, the written type, then the name.
@@ -276,15 +278,42 @@ fn check_annotated(
         (value_in frame.now environment line (expression value.now))) }
 {
     let value = value_in(alloc, frame, &environment, line, value)?;
-    check_written(frame, line, &value.ty)?;
-    let ty = value.ty.copy()?;
-    assign_name(frame, &mut environment, line, name.as_str(), ty)?;
-    let name = name.copy()?;
-    let written = written.copy(alloc)?;
+    put_annotated(frame, &mut environment, line, name, &value)?;
+    let kind = annotated(alloc, line, name, written, value)?;
     Ok(StatementTyping {
-        kind: TypedStmtKind::Annotated(line, name, written, into_expr(value)),
+        kind,
         ends: goes_on(Some(environment)),
     })
+}
+
+// The name takes the type of the value, which is the type that is written on this line.
+fn put_annotated(
+    frame: &Frame<'_>,
+    environment: &mut Environment,
+    line: LineNo,
+    name: &Name,
+    value: &Value,
+) -> Result<(), TypeFault>
+    ensures { Answers (λ _. environment.new) result
+        (put_written (known_for frame.now) (frame_view frame.now) environment.old line name.now (ty_view value.now.ty)) }
+{
+    check_written(frame, line, &value.ty)?;
+    assign_name(frame, environment, line, name.as_str(), value.ty.copy()?)
+}
+
+fn annotated(
+    alloc: Global,
+    line: LineNo,
+    name: &Name,
+    written: &TypeExpr,
+    value: Value,
+) -> Result<TypedStmtKind, AllocError>
+    ensures { IfOk result (λ made. statement_kind_view made
+        ≡ typed.annotated line name.now (type_expression written.now) (value_view value).tree) }
+{
+    let name = name.copy()?;
+    let written = written.copy(alloc)?;
+    Ok(TypedStmtKind::Annotated(line, name, written, into_expr(value)))
 }
 
 // The type that is written on this line is this one.
@@ -335,7 +364,7 @@ fn check_return(
         }
         Some(value) => {
             let value = value_in(alloc, frame, environment, line, value)?;
-            if !is_result(&frame.signature.result, &value.ty) {
+            if !is_result(&frame.signature.result, &value) {
                 return Err(TypeFault::Mismatch(line));
             }
             TypedStmtKind::Return(line, Some(into_expr(value)))
@@ -347,13 +376,13 @@ fn check_return(
     })
 }
 
-// Whether a function with this result may return a value of this type.
-fn is_result(result_ty: &Option<Ty>, ty: &Ty) -> bool
-    ensures { result ≡ spec.is_result (option_map ty_view result_ty.now) (ty_view ty.now) }
+// Whether a function with this result may return this value.
+fn is_result(result_ty: &Option<Ty>, value: &Value) -> bool
+    ensures { result ≡ spec.is_result (option_map ty_view result_ty.now) (ty_view value.now.ty) }
 {
     match result_ty {
         None => false,
-        Some(result_ty) => same_type(result_ty, ty),
+        Some(result_ty) => same_type(result_ty, &value.ty),
     }
 }
 
@@ -368,7 +397,7 @@ fn check_test(
     ensures { Answers expression_view result (tested line (value_in frame.now environment.now line (expression test.now))) }
 {
     let test = value_in(alloc, frame, environment, line, test)?;
-    if !is_bool(&test.ty) {
+    if !is_bool_value(&test) {
         return Err(TypeFault::Mismatch(line));
     }
     Ok(into_expr(test))
@@ -385,7 +414,7 @@ fn check_count(
     ensures { Answers expression_view result (counted line (value_in frame.now environment.now line (expression count.now))) }
 {
     let count = value_in(alloc, frame, environment, line, count)?;
-    if !is_int(&count.ty) {
+    if !is_int_value(&count) {
         return Err(TypeFault::Mismatch(line));
     }
     Ok(into_expr(count))
@@ -454,13 +483,8 @@ fn end_if(
 ) -> Result<StatementTyping, TypeFault>
     ensures { Answers statement_view result (ended_if line (expression_view test) (block_view body) (block_view other)) }
 {
-    let BlockTyping { stmts, ends } = body;
-    let body = into_block(stmts, &ends);
-    let BlockTyping {
-        stmts,
-        ends: other_ends,
-    } = other;
-    let other = into_block(stmts, &other_ends);
+    let (body, ends) = into_parts(body);
+    let (other, other_ends) = into_parts(other);
     let ends = one_of(alloc, ends, other_ends)?;
     Ok(StatementTyping {
         kind: TypedStmtKind::If(line, test, body, other),
@@ -480,12 +504,26 @@ fn end_while(
     ensures { Answers statement_view result
         (ended_while line (expression written.now) (expression_view test) head (block_view body)) }
 {
-    if !comes_back(&head, &body.ends) {
+    if !comes_back(&head, &body) {
         return Err(TypeFault::LoopChangesType(line));
     }
-    let BlockTyping { stmts, ends } = body;
-    let block = into_block(stmts, &ends);
-    let next = after_while(alloc, written, head, ends.breaks)?;
+    Ok(while_ended(alloc, line, written, test, head, body)?)
+}
+
+fn while_ended(
+    alloc: Global,
+    line: LineNo,
+    written: &Expr,
+    test: TypedExpr,
+    head: Environment,
+    body: BlockTyping,
+) -> Result<StatementTyping, AllocError>
+    ensures { IfOk result (λ made. Ok (statement_view made)
+        ≡ spec.typed_as (typed.while_loop line (expression_view test) (spec.block_of (block_view body)))
+        (spec.goes_on (spec.after_while (expression written.now) head (block_view body).ends.breaks))) }
+{
+    let (block, breaks) = into_loop(body);
+    let next = after_while(alloc, written, head, breaks)?;
     Ok(StatementTyping {
         kind: TypedStmtKind::While(line, test, block),
         ends: goes_on(next),
@@ -504,13 +542,27 @@ fn end_for(
     ensures { Answers statement_view result
         (ended_for line name.now (expression_view count) head (block_view body)) }
 {
-    if !comes_back(&head, &body.ends) {
+    if !comes_back(&head, &body) {
         return Err(TypeFault::LoopChangesType(line));
     }
-    let BlockTyping { stmts, ends } = body;
-    let block = into_block(stmts, &ends);
+    Ok(for_ended(alloc, line, name, count, head, body)?)
+}
+
+fn for_ended(
+    alloc: Global,
+    line: LineNo,
+    name: &Name,
+    count: TypedExpr,
+    head: Environment,
+    body: BlockTyping,
+) -> Result<StatementTyping, AllocError>
+    ensures { IfOk result (λ made. Ok (statement_view made)
+        ≡ spec.typed_as (typed.for_loop line name.now (expression_view count) (spec.block_of (block_view body)))
+        (spec.goes_on (env.join_reached (Some head) (block_view body).ends.breaks))) }
+{
     let name = name.copy()?;
-    let next = join_reached(alloc, Some(head), ends.breaks)?;
+    let (block, breaks) = into_loop(body);
+    let next = join_reached(alloc, Some(head), breaks)?;
     Ok(StatementTyping {
         kind: TypedStmtKind::For(line, name, count, block),
         ends: goes_on(next),

@@ -12,7 +12,7 @@ use Rattle.gp_typing.specs.Checks.{Checked, ◌>>=◌, check, found}
 use Rattle.gp_locals.specs.Environment.{Environment, NameType, is_within, join_reached, put, usable}
 use Rattle.gp_typing.specs.Expressions.{Value, is_bool, is_int}
 use Rattle.gp_scope.specs.Known.{Known}
-use Rattle.gp_typing.specs.Statements.{Frame, StatementTyping, BlockTyping, after, after_while, block_of, block_typing, comes_back, goes_on, line_of, one_of, statement_typing, typed_as}
+use Rattle.gp_typing.specs.Statements.{Frame, Ends, StatementTyping, BlockTyping, after, after_while, block_of, block_typing, comes_back, goes_on, line_of, one_of, statement_typing, typed_as}
 use Rattle.gp_typing.specs.Typed as typed
 use Rattle.gp_typing.specs.Typed.{TypedExpression, TypedStatements, no_statements, with_statement, behind}
 
@@ -31,6 +31,10 @@ named frame e line name ty = check (not (frame.is_borrowed name)) (BorrowedAssig
 -- the written type of a line, which the value has
 abbrev pub written : Known → LineNo → Ty → Checked (Unit {0})
 written known line its = found (known.annotated_at line) (Mismatch line) >>= λ ty. check (same_type ty its) (Mismatch line)
+
+-- a name that takes the type of the value, which is the written type of the line
+abbrev pub put_written : Known → Frame → Environment → LineNo → List ℕ → Ty → Checked Environment
+put_written known frame e line name its = written known line its >>= λ _. named frame e line name its
 
 abbrev pub ended_annotated : Known → Frame → Environment → LineNo → List ℕ → TypeExpression → Checked Value → Checked StatementTyping
 ended_annotated known frame e line name ty value =
@@ -66,7 +70,11 @@ joined_block b rest = record { trees = append_statements b.trees rest.trees; end
 abbrev pub with_typed : BlockTyping → List NameType → StatementTyping → BlockTyping
 with_typed b before s = record { trees = append_statements b.trees (with_statement (behind before s.kind) no_statements); ends = after b.ends s.ends }
 
--- the same where the types of the usable names behind it are within the limit
+-- one after another, where the types of the usable names at the second's end are within the limit
+abbrev pub kept_within : LineNo → Ends → Ends → Checked Ends
+kept_within line first second = check (is_within second.next) (TooManyPlaces line) >>= λ _. Ok (after first second)
+
+-- a block with one more statement, where the types of the usable names behind it are within the limit
 abbrev pub ended_next : LineNo → BlockTyping → List NameType → StatementTyping → Checked BlockTyping
 ended_next line b before s = check (is_within s.ends.next) (TooManyPlaces line) >>= λ _. Ok (with_typed b before s)
 

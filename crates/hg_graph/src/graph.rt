@@ -14,7 +14,7 @@ use std::alloc::{AllocError, Global};
 use std::marker::Model;
 
 /// A node of a graph.
-#[derive(Debug, Drop)]
+#[derive(Drop)]
 pub struct Node {
     /// What the node does.
     pub op: OpKind,
@@ -28,7 +28,7 @@ pub type Nodes = Sequence<Node>;
 /// A program graph that grows: nodes are numbered in the order in which they are added. A contract sees
 /// it as the list of its nodes and the list of its links. Beside them it keeps the children of each node and the links
 /// at each of its ports, so that a look-up takes the same time in a large graph as in a small one.
-#[derive(Debug, Drop)]
+#[derive(Drop)]
 pub struct Graph {
     nodes: Vec<Node>,
     links: Vec<Link>,

@@ -4,12 +4,12 @@
 mod tests;
 
 use crate::filling::indexes_of;
-use crate::indexes::{push_node, push_order, push_ports};
+use crate::indexes::{append, push_index, push_order, push_ports};
 use crate::link::{Link, NodeId, Port};
 use crate::node_index::NodeIndex;
 use crate::sources::{first_source, source_at};
 use gp_base::Sequence;
-use hg_ops::{OpKind, input_count, output_count};
+use hg_ops::OpKind;
 use std::alloc::{AllocError, Global};
 use std::marker::Model;
 
@@ -106,11 +106,8 @@ impl Graph {
         ensures err { OnErr result (self.new ≡ self.old) }
     {
         let number = NodeId(self.nodes.len() as u64);
-        let alloc = *self.nodes.allocator();
-        let index = NodeIndex::new(alloc, input_count(&op), output_count(&op))?;
-        self.nodes.reserve(1)?;
-        push_node(&mut self.indexes, parent, index)?;
-        self.nodes.push(Node { op, parent })?;
+        push_index(&mut self.nodes, &mut self.indexes, parent, &op)?;
+        append(&mut self.nodes, Node { op, parent })?;
         Ok(number)
     }
 

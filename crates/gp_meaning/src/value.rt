@@ -8,7 +8,7 @@ use gp_base::Name;
 use std::alloc::{AllocError, Global};
 
 /// A value of a run.
-#[derive(Debug, Drop)]
+#[derive(Drop)]
 #[cycle(value)]
 pub enum Value {
     /// A whole number.
@@ -27,7 +27,7 @@ pub enum Value {
 pub type Values = Vec<Value>;
 
 /// A field of a struct with its value.
-#[derive(Debug, Drop)]
+#[derive(Drop)]
 #[cycle(value)]
 pub struct FieldValue {
     /// The field's name.

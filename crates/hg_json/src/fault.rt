@@ -24,7 +24,7 @@ pub enum JsonFault {
 }
 
 /// Why an entry could not be read.
-#[derive(Debug, Drop)]
+#[derive(Drop)]
 pub enum Miss {
     /// It doesn't have its shape.
     Shape,

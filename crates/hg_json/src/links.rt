@@ -12,7 +12,7 @@ use hg_graph::{Link, NodeId, Port};
 use serde_json::Value;
 
 // An end of a link.
-#[derive(Clone, Copy, Debug)]
+#[derive(Clone, Copy)]
 enum End {
     // A port.
     Port(Port),

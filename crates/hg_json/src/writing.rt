@@ -4,8 +4,8 @@ ghost use Rattle.std.specs.Prelude.{◌≡◌, ◌<◌, ◌++◌, false, length,
 ghost use Rattle.serde_json.specs.Data.{object};
 ghost use Rattle.serde_json.specs.View.{view as seen};
 ghost use Rattle.serde_json.specs.Written.{has_float, compact_text, comma_if, items_text};
-ghost use Rattle.hg_graph.specs.Graph.{op_at, parent_at};
-ghost use Rattle.hg_graph.specs.View.{link_view};
+ghost use Rattle.hg_graph.specs.Graph.{Ports, Order, op_at, parent_at};
+ghost use Rattle.hg_graph.specs.View.{port_view, link_view};
 ghost use Rattle.hg_ops.specs.OpView.{op_view};
 ghost use Rattle.hg_json.specs.GraphText as spec;
 ghost use Rattle.hg_json.specs.GraphText.{IsServed, AreServed, array_of, node_data, node_members, link_data, json};
@@ -60,19 +60,31 @@ fn link_value(alloc: Global, link: Link) -> Result<Value, AllocError>
     ensures { IfOk result (λ made. seen made ≡ link_data (link_view link)) }
 {
     match link {
-        Link::Ports(from, to) => {
-            let Port {
-                node: NodeId(n),
-                index: p,
-            } = from;
-            let Port {
-                node: NodeId(m),
-                index: q,
-            } = to;
-            json!(in alloc; [[n, p], [m, q]])
-        }
-        Link::Order(NodeId(n), NodeId(m)) => json!(in alloc; [[n, null], [m, null]]),
+        Link::Ports(from, to) => ports_value(alloc, from, to),
+        Link::Order(before, after) => order_value(alloc, before, after),
     }
+}
+
+fn ports_value(alloc: Global, from: Port, to: Port) -> Result<Value, AllocError>
+    ensures { IfOk result (λ made. seen made ≡ link_data (Ports (port_view from) (port_view to))) }
+{
+    let Port {
+        node: NodeId(n),
+        index: p,
+    } = from;
+    let Port {
+        node: NodeId(m),
+        index: q,
+    } = to;
+    json!(in alloc; [[n, p], [m, q]])
+}
+
+fn order_value(alloc: Global, before: NodeId, after: NodeId) -> Result<Value, AllocError>
+    ensures { IfOk result (λ made. seen made ≡ link_data (Order before.0 after.0)) }
+{
+    let NodeId(n) = before;
+    let NodeId(m) = after;
+    json!(in alloc; [[n, null], [m, null]])
 }
 
 // Writes a value at the end, after a comma where something stands before.

@@ -4,7 +4,7 @@ use std::alloc::{AllocError, Global};
 use std::marker::Model;
 
 /// The type of the value at a port of a graph.
-#[derive(Debug, Drop)]
+#[derive(Drop)]
 #[cycle(graph_type)]
 pub enum GraphType {
     /// A whole number of 64 bits with a sign.
@@ -18,14 +18,14 @@ pub enum GraphType {
 }
 
 /// A list of types, as of the values at the inputs of a node. A contract sees it as a list.
-#[derive(Debug, Drop)]
+#[derive(Drop)]
 #[cycle(graph_type)]
 pub struct Row {
     types: Vec<GraphType>,
 }
 
 /// A list of rows. A contract sees it as a list of lists.
-#[derive(Debug, Drop)]
+#[derive(Drop)]
 #[cycle(graph_type)]
 pub struct Rows {
     rows: Vec<Row>,

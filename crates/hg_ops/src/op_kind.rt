@@ -5,7 +5,7 @@ use gp_base::Name;
 
 /// What a node of a graph does. The ops up to `LoadFunction` are HUGR's own, the others are ops of extensions. A value
 /// port has a number, its place in the row of inputs or of outputs, counted from 0.
-#[derive(Debug, Drop)]
+#[derive(Drop)]
 pub enum OpKind {
     /// The root of a graph: its children are functions and constants.
     Module,

@@ -9,7 +9,7 @@ use hg_graph::{Graph, NodeId};
 use std::alloc::{AllocError, Global};
 
 // A step up from a node to one of its ancestors.
-#[derive(Clone, Copy, Debug)]
+#[derive(Clone, Copy)]
 pub(crate) struct Jump {
     // The ancestor.
     pub(crate) to: NodeId,

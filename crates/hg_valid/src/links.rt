@@ -21,7 +21,7 @@ use hg_graph::{Graph, Link, NodeId, Port};
 use hg_ops::{OpKind, Rows};
 
 // What a port carries that isn't a value.
-#[derive(Clone, Copy, Debug, PartialEq, Eq)]
+#[derive(Clone, Copy, PartialEq, Eq)]
 enum OtherKind {
     Control,
     Function,

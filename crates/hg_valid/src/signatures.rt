@@ -8,7 +8,7 @@ use hg_ops::{Row, signature};
 use std::alloc::{AllocError, Global};
 
 // The types at the value ports of a node.
-#[derive(Debug, Drop)]
+#[derive(Drop)]
 pub(crate) struct Signature {
     pub(crate) ins: Row,
     pub(crate) outs: Row,

@@ -12,7 +12,7 @@ use hg_ops::Row;
 use std::alloc::{AllocError, Global};
 
 // The types at the value ports of each node, and a step up from each node.
-#[derive(Debug, Drop)]
+#[derive(Drop)]
 pub(crate) struct Tables {
     pub(crate) signatures: Vec<Signature>,
     pub(crate) jumps: Vec<Jump>,

@@ -14,7 +14,7 @@ use std::alloc::{AllocError, Global};
 use std::marker::Model;
 
 /// A valid graph. A contract sees it as the graph.
-#[derive(Debug, Drop)]
+#[derive(Drop)]
 pub struct Valid {
     graph: Graph,
 }
@@ -37,7 +37,7 @@ impl Model for Valid {
 }
 
 /// Why a graph isn't valid. Both hand the graph back as it was.
-#[derive(Debug, Drop)]
+#[derive(Drop)]
 pub enum Invalid {
     /// A rule is broken.
     Rule {

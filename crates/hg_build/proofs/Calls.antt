@@ -1,16 +1,16 @@
 -- The clauses of the builder's calls, from what they add.
 use Rattle.std.proofs.Common.{◌≡◌, ℕ, zero, suc, ◌<◌, Bool, true, List, [], ◌∷◌, ◌++◌, length, Option, Some, None, ℤ, slice_get, slice_set, refl, sym, ap, ◌∙◌, subst}
-use Rattle.hg_ops.specs.Op.{Op, Types, FuncDefn, Call, Cfg, ins_of, outs_of}
+use Rattle.hg_ops.specs.Op.{Op, Types, FuncDefn, Call, CallIndirect, LoadFunction, Cfg, ins_of, outs_of}
 use Rattle.hg_graph.specs.Graph.{Graph, Port, op_at, parent_at, children}
 use Rattle.hg_build.specs.Steps.{Step, body, Hole, Way}
-use Rattle.hg_build.specs.Wired.{IsNode, IsOpened, IsConstant, IsChoice, IsBlock, IsControl, IsEntered, IsLeft, IsFinished, after_node, after_choice, after_ends, inner_place, inner_of, call_of, effect_prior, last_after}
+use Rattle.hg_build.specs.Wired.{IsNode, IsOpened, IsConstant, IsChoice, IsBlock, IsControl, IsEntered, IsLeft, IsFinished, after_node, after_choice, after_ends, inner_place, inner_of, call_of, load_of, effect_prior, last_after}
 use Rattle.hg_build.specs.Built.{Frame, frame_at, Base, Built, BuiltAt, Filling, FillingAt, FunctionsBuilt, Fill, Flow, Choice, new_holes, FirstBlock}
-use Rattle.hg_build.specs.Clauses.{OpenBuilt, OpBuilt, ConstantBuilt, CallBuilt, ChoiceBuilt, FlowBuilt, BlockBuilt, ControlBuilt, FilledIsStep, EnterBuilt, LeaveBuilt, FinishBuilt, step, next_node}
+use Rattle.hg_build.specs.Clauses.{OpenBuilt, OpBuilt, ConstantBuilt, CallBuilt, LoadBuilt, ChoiceBuilt, FlowBuilt, BlockBuilt, ControlBuilt, FilledIsStep, EnterBuilt, LeaveBuilt, FinishBuilt, step, next_node}
 use Rattle.hg_build.specs.declared.region.Region.{Region}
 use Rattle.hg_build.specs.declared.region.Place.{Place}
 use Rattle.hg_build.specs.declared.region.Outer.{Outer}
 use Rattle.hg_build.specs.declared.wire.Held.{Held}
-use Rattle.hg_build.proofs.Frames.{op_built, call_built, constant_built}
+use Rattle.hg_build.proofs.Frames.{op_built, indirect_built, call_built, load_built, constant_built}
 use Rattle.hg_build.proofs.Containers.{choice_built, flow_built, flow_first, block_built, exit_built, control_built, filled_step, enter_built, leave_built, open_built, finish_built}
 
 built_from : (r : Region) (g : Graph) (base : Base) (p : Place) (width : ℕ) (frs : List Frame) (ss : List Step) → r.graph ≡ g → r.place ≡ p → BuiltAt g base p width frs ss → Built r base width frs ss
@@ -25,8 +25,11 @@ open_clause old container ins outs new handed a = record {
 }
 
 pub op_clause : (old new : Region) (kind : Op) (ps : List Port) (n : ℕ) (outs : List Held) → IsNode old new kind ps None n outs → OpBuilt old new kind ps
-op_clause old new kind ps n outs a = record {
+op_clause old new kind ps n handed a = record {
   by = λ base width frs ss b is ar sc. built_from new _ base _ width frs _ a.graph a.place (op_built old.graph base old.place width frs ss kind ps b is ar sc);
+  indirect = λ base width frs ss ins outs find b e fs ar sc.
+      let x : IsNode old new (CallIndirect ins outs) ps None n handed = subst (λ k. IsNode old new k ps None n handed) e a in
+      built_from new _ base _ width frs _ x.graph x.place (indirect_built old.graph base old.place width frs ss ins outs find ps b fs (ap (λ k. length (ins_of k)) (sym e) ∙ ar) sc);
 }
 
 pub constant_clause : (old new : Region) (value : ℤ) (out : Port) → IsConstant old new value out → ConstantBuilt old new value
@@ -37,6 +40,13 @@ constant_clause old new value out a = record {
 pub call_clause : (old new : Region) (f : ℕ) (ins outs : Types) (ps : List Port) (n : ℕ) (handed : List Held) → IsNode old new (Call ins outs) ps (Some f) n handed → CallBuilt old new f ins ps
 call_clause old new f ins outs ps n handed a = record {
   by = λ base width frs ss b ar sc lt. built_from new _ base _ width frs _ a.graph a.place (call_built old.graph base old.place width frs ss ins outs ps f b ar sc lt);
+}
+
+pub load_clause : (old new : Region) (f n : ℕ) (handed : List Held) → IsNode old new (load_of (op_at old.graph f)) [] (Some f) n handed → LoadBuilt old new f
+load_clause old new f n handed a = record {
+  by = λ base width frs ss name ins outs b is.
+      let x : IsNode old new (LoadFunction ins outs) [] (Some f) n handed = subst (λ k. IsNode old new k [] (Some f) n handed) (ap load_of is) a in
+      built_from new _ base _ width frs _ x.graph x.place (load_built old.graph base old.place width frs ss f name ins outs b is);
 }
 
 pub choice_clause : (old new : Region) (rows : List Types) (ins outs : Types) (ps : List Port) (node : ℕ) (handed : List Held) → IsChoice old new rows ins outs ps node handed → ChoiceBuilt old new rows ins ps node

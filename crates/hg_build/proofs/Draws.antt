@@ -611,6 +611,47 @@ drawn_constant g f t value due owed d lt lf nin at fn par = drawn_other g from t
     no_local : false ≡ true → ⊥
     no_local e = cc
 
+-- the static link of a function that is loaded
+pub drawn_load : (g : Graph) (f t : ℕ) (name : List ℕ) (ins outs : Types) (due owed : List ℕ) → Drawn g due (t ∷ owed) → t < length g.nodes → f < length g.nodes → (In t owed → ⊥) → op_at g t ≡ LoadFunction ins outs → op_at g f ≡ FuncDefn name ins outs → Drawn (with_links g (Ports (record { node = f; index = 0 }) (record { node = t; index = 0 }) ∷ [])) due owed
+drawn_load g f t name ins outs due owed d lt lf nin at fn = drawn_other g from t 0 due (t ∷ owed) owed d (record {
+  node = lt;
+  source = lf;
+  past = omega (arith, wide);
+  joins = record { kind = FunctionPort; output = ap (λ o. slice_get (output_ports o) 0) fn; input = ap (λ o. slice_get (input_ports o) 0) at };
+  local = λ loc. absurd (no_local (ap (λ o. is_local (slice_get (input_ports o) 0)) (sym at) ∙ loc));
+  statics = λ o. subst (StaticAt h t) (sym at) (record {
+    static = record { once = ap (links_into h.links) (sym to_is) ∙ once; source = from; is_source = ap (feeder h.links) (sym to_is) ∙ feeder_new g.links from to none };
+    callee = record { source = from; is_source = ap (feeder h.links) (sym to_is) ∙ feeder_new g.links from to none; name = name; is_function = op_links g (Ports from to ∷ []) f ∙ fn };
+  });
+  unowed = λ i. absurd (nin i);
+  owed_in = λ m ne i. inr i;
+  owed_out = λ m ne i. ⊎_elim (λ e. absurd (ne e)) (λ j. j) i;
+})
+  where
+    from : Port
+    from = record { node = f; index = 0 }
+
+    to : Port
+    to = record { node = t; index = 0 }
+
+    h : Graph
+    h = with_links g (Ports from to ∷ [])
+
+    wide : length (ins_of (op_at g t)) ≡ 0
+    wide = ap (λ o. length (ins_of o)) at
+
+    to_is : record { node = t; index = 0 } ≡ static_input (with_links g (Ports (record { node = f; index = 0 }) (record { node = t; index = 0 }) ∷ [])) t
+    to_is = ap (λ k. record { node = t; index = k }) (sym (ap (λ o. length (ins_of o)) (op_links g (Ports (record { node = f; index = 0 }) (record { node = t; index = 0 }) ∷ []) t ∙ at)))
+
+    none : links_into g.links (record { node = t; index = 0 }) ≡ 0
+    none = ap (λ k. links_into g.links (record { node = t; index = k })) (sym (ap (λ o. length (ins_of o)) at)) ∙ d.unowed t lt (inl refl)
+
+    once : links_into (g.links ++ Ports (record { node = f; index = 0 }) (record { node = t; index = 0 }) ∷ []) (record { node = t; index = 0 }) ≡ 1
+    once = let a = into_append g.links (Ports (record { node = f; index = 0 }) (record { node = t; index = 0 }) ∷ []) (record { node = t; index = 0 }) in let b = same_link (record { node = f; index = 0 }) (record { node = t; index = 0 }) in let c = none in omega arith
+
+    no_local : false ≡ true → ⊥
+    no_local e = cc
+
 -- what has no static input owes none
 abbrev pub is_static : Op → Bool
 is_static kind = owes_static kind
@@ -745,3 +786,17 @@ call_drawn g f c name ins outs ps prior due owed d nf b bo y r pf lf fn =
         let a = x.0 in
         let q = op_links g2 sl l ∙ op_links g1 (value_links (length g.nodes) 0 ps) l ∙ op_old g (Call ins outs) c l a in
         (omega arith, parent_links g2 sl l ∙ parent_links g1 (value_links (length g.nodes) 0 ps) l ∙ parent_old g (Call ins outs) c l a ∙ x.1, ap is_operation q ∙ x.2, ap is_output q ∙ x.3)
+
+-- `load_function`
+pub load_drawn : (g : Graph) (f c : ℕ) (name : List ℕ) (ins outs : Types) (due owed : List ℕ) → Drawn g due owed → NodeFits g (LoadFunction ins outs) c → AllBelow due (length g.nodes) → AllBelow owed (length g.nodes) → f < length g.nodes → op_at g f ≡ FuncDefn name ins outs → Drawn (after_node g (LoadFunction ins outs) c [] (Some f) None) due owed
+load_drawn g f c name ins outs due owed d nf b bo lf fn =
+    let n = length g.nodes in
+    let kind = LoadFunction ins outs in
+    let g1 = with_node g kind c in
+    let g2 = with_links g1 (value_links n 0 []) in
+    let more : length g1.nodes ≡ suc n = count_node g kind c in
+    let at : op_at g2 n ≡ kind = op_links g1 (value_links n 0 []) n ∙ op_new g kind c in
+    let fn2 : op_at g2 f ≡ FuncDefn name ins outs = op_links g1 (value_links n 0 []) f ∙ op_old g kind c f lf ∙ fn in
+    let d2 = drawn_start g kind c [] due owed d nf b tt tt in
+    let d3 = drawn_load g2 f n name ins outs due owed d2 (omega arith) (omega arith) (λ i. let x = bo n i in absurd (omega arith)) at fn2 in
+    subst (λ x. Drawn x due owed) (sym (with_none (with_links g2 (static_links (Some f) n 0)))) d3

@@ -3,12 +3,15 @@ use Rattle.std.proofs.Common.{◌≡◌, ◌≢◌, ◌⊎◌, inl, inr, ⊎_eli
 use Rattle.gp_base.specs.Membership.{In}
 use Rattle.gp_base.specs.Run.{Run, Out, Returned, Stopped, Stop, TurnsUsed, OutcomesUsed, DivisionByZero, Stuck, go_on, ◌>>=◌, ret, stop}
 use Rattle.gp_base.specs.World.{World, take_turn}
-use Rattle.hg_ops.specs.Op.{Op, Types, Module, FuncDefn, Const, Input, Output, Dfg, Cfg, DataflowBlock, ExitBlock, Conditional, Case, TailLoop, Tag, Call, LoadConstant, Ext, Extension}
+use Rattle.hg_ops.specs.Op.{Op, Types, Module, FuncDefn, Const, Input, Output, Dfg, Cfg, DataflowBlock, ExitBlock, Conditional, Case, TailLoop, Tag, Call, CallIndirect, LoadConstant, LoadFunction, Ext, Extension}
 use Rattle.hg_graph.specs.Graph.{Graph, Port, op_at, children, firing_children, feeder, taker, static_input, is_port}
-use Rattle.hg_graph.specs.Run.{Open, State, Enter, no_note, with_world, on_world, at_node, at_port, with_variant, constant, after_turn, fire, fire_op, enter_op, region, jump, perform}
-use Rattle.hg_graph.specs.Value.{Value, Int, Qubit, Variant, Function, values}
+use Rattle.hg_graph.specs.Run.{Open, State, Enter, no_note, with_world, on_world, at_node, at_port, with_variant, with_function, name_of_function, constant, after_turn, fire, fire_op, enter_op, region, jump, perform}
+use Rattle.hg_graph.specs.Valid.{name_of}
+use Rattle.hg_graph.specs.Value.{Value, Int, Qubit, Variant, Function, values, callee}
+use Rattle.hg_laws.proofs.Named.{within}
+use Rattle.hg_build.proofs.Names.{found_named}
 use Rattle.hg_laws.proofs.Children.{both_true}
-use Rattle.hg_build.specs.Steps.{Act, Calls, Step, quiet, Tracks, Runner, Grows, SamePart, FiresAs, RegionAs, plain_act, constant_act, call_act, Hole, filled, hole_act, by_variant, choice_act, Way, hole_at, way_at, go_way, forward, walk, cfg_act, is_plain, HoleDoes, HolesDo, HolesWithin, IsCaseAt, CasesAt, IsBlockAt, BlocksAt, IsExitAt, EndsAt, IsWayAt, WaysAt}
+use Rattle.hg_build.specs.Steps.{Act, Calls, Step, quiet, Tracks, Runner, Grows, SamePart, FiresAs, RegionAs, plain_act, constant_act, call_act, function_act, found_act, indirect_act, Finds, IsNamed, Hole, filled, hole_act, by_variant, choice_act, Way, hole_at, way_at, go_way, forward, walk, cfg_act, is_plain, HoleDoes, HolesDo, HolesWithin, IsCaseAt, CasesAt, IsBlockAt, BlocksAt, IsExitAt, EndsAt, IsWayAt, WaysAt}
 use Rattle.hg_build.specs.Built.{EntryAt}
 use Rattle.hg_build.proofs.Real.{tracks_then}
 use Rattle.hg_build.proofs.Moves.{same_part}
@@ -54,6 +57,39 @@ call_node g lo hi n p ins outs lt at fed = record {
       let same = e.grows.ops n lt in
       rw (same ∙ at, static_same g h n same, e.grows.feeders (static_input g n) p fed) (tracks_then (take_turn w) (with_world (quiet w) (take_turn w)) (λ _. calls p.node vs) (λ _. R outer p.node vs) (tracks_world w (take_turn w)) (λ _ v. r.answers p.node outer vs v));
 }
+
+pub load_node : (g : Graph) (lo hi n : ℕ) (p : Port) (name : List ℕ) (ins outs ins' outs' : Types) → n < length g.nodes → op_at g n ≡ LoadFunction ins' outs' → feeder g.links (static_input g n) ≡ Some p → op_at g p.node ≡ FuncDefn name ins outs → FiresAs g lo hi n (function_act name)
+unfolding fire_op
+load_node g lo hi n p name ins outs ins' outs' lt at fed is = record {
+  by = λ h e R calls r outer vs w.
+      let same = e.grows.ops n lt in
+      rw (same ∙ at, static_same g h n same, e.grows.feeders (static_input g n) p fed, e.grows.ops p.node (within g p.node name ins outs is) ∙ is) refl;
+}
+
+-- the functions that are found stay where they are
+pub finds_in : (g h : Graph) (ins outs : Types) (name : List ℕ) (f : ℕ) → Grows g h → IsNamed g ins outs name f → IsNamed h ins outs name f
+finds_in g h ins outs name f w x =
+    let lt = within g f name ins outs x.is in
+    record { is = w.ops f lt ∙ x.is; new = λ m l e. x.new m l (ap name_of (sym (w.ops m (omega arith))) ∙ e) }
+
+pub indirect_node : (g : Graph) (lo hi n : ℕ) (ins outs : Types) (find : List ℕ → Option ℕ) → n < length g.nodes → op_at g n ≡ CallIndirect ins outs → Finds g ins outs find → FiresAs g lo hi n (indirect_act find)
+unfolding fire_op
+indirect_node g lo hi n ins outs find lt at fs = record {
+  by = λ h e R calls r outer vs w. rw (e.grows.ops n lt ∙ at) (by_value h e R calls r outer vs w);
+}
+  where
+    called : (h : Graph) → SamePart lo hi g h → (R : Enter (Unit {0})) (calls : Calls) → Runner h R calls → (outer : List Open) (name : List ℕ) (us : List Value) (w : World) (o : Option ℕ) → find name ≡ o → Tracks (found_act o calls us w) (at_node (callee h ins outs name) (λ f. after_turn R outer f us) (quiet w))
+    called h e R calls r outer name us w None q = tt
+    called h e R calls r outer name us w (Some f) q =
+        rw (found_named h ins outs name f (finds_in g h ins outs name f e.grows (fs name f q)))
+        (tracks_then (take_turn w) (with_world (quiet w) (take_turn w)) (λ _. calls f us) (λ _. R outer f us) (tracks_world w (take_turn w)) (λ _ v. r.answers f outer us v))
+
+    by_value : (h : Graph) → SamePart lo hi g h → (R : Enter (Unit {0})) (calls : Calls) → Runner h R calls → (outer : List Open) (vs : List Value) (w : World) → Tracks (indirect_act find calls vs w) (with_function vs (λ name us. at_node (callee h ins outs name) (λ f. after_turn R outer f us)) (quiet w))
+    by_value h e R calls r outer [] w = tt
+    by_value h e R calls r outer (Int a ∷ vs) w = tt
+    by_value h e R calls r outer (Qubit q ∷ vs) w = tt
+    by_value h e R calls r outer (Variant k us ∷ vs) w = tt
+    by_value h e R calls r outer (Function name ∷ vs) w = called h e R calls r outer name vs w (find name) refl
 
 -- ---- nodes with regions
 

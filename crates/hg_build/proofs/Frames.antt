@@ -1,16 +1,17 @@
 -- What stays of a region and of those that wait round it, and what one more step makes of them.
 use Rattle.std.proofs.Common.{◌≡◌, ◌≢◌, ◌⊎◌, inl, inr, ⊎_elim, ℕ, ℤ, zero, suc, ◌+◌, ◌≤◌, ◌<◌, Bool, true, false, cond, List, [], ◌∷◌, ◌++◌, length, map, Option, Some, None, slice_get, refl, sym, ap, ◌∙◌, subst, arith, le_refl, append-nil}
 use Rattle.gp_base.specs.Membership.{In}
-use Rattle.hg_ops.specs.Op.{Op, Types, Tag, Ext, Const, LoadConstant, FuncDefn, Call, ins_of, fires, is_effect}
+use Rattle.hg_ops.specs.Op.{Op, Types, Tag, Ext, Const, LoadConstant, LoadFunction, FuncDefn, Call, CallIndirect, ins_of, fires, is_effect}
 use Rattle.hg_graph.specs.Graph.{Graph, Port, op_at, parent_at, children, firing_children, feeder, taker, static_input}
 use Rattle.hg_laws.proofs.Children.{child_is, kid_is}
-use Rattle.hg_build.specs.Steps.{Act, Calls, Step, nodes_of, Grows, SamePart, FiresAs, FedBy, PortsIn, StepAt, StepsAt, Laid, known_after, Hole, Way, HolesDo, HoleDoes, RegionAs, CasesAt, IsCaseAt, BlocksAt, IsBlockAt, EndsAt, IsWayAt, WaysAt, IsExitAt, IsFunctionAt, is_plain, plain_act, constant_act, call_act}
+use Rattle.hg_build.specs.Steps.{Act, Calls, Step, nodes_of, Grows, SamePart, FiresAs, FedBy, PortsIn, StepAt, StepsAt, Laid, known_after, Hole, Way, HolesDo, HoleDoes, RegionAs, CasesAt, IsCaseAt, BlocksAt, IsBlockAt, EndsAt, IsWayAt, WaysAt, IsExitAt, IsFunctionAt, is_plain, plain_act, constant_act, call_act, function_act, indirect_act, Finds}
 use Rattle.hg_build.specs.Wired.{with_node, with_links, after_node, effect_prior, last_after, after_constant, call_of}
 use Rattle.hg_build.specs.Built.{Sound, LastIn, OpenAt, Fill, Choice, Flow, IsChoiceAt, IsFlowAt, EntryAt, FillAt, HolesRise, Frame, Halfway, Base, FunctionsAt, ModuleAt, Below, BuiltAt}
 use Rattle.hg_build.specs.declared.region.Place.{Place}
 use Rattle.hg_build.proofs.Real.{above_at, in_split}
 use Rattle.hg_build.proofs.Moves.{same_part, steps_rise, steps_in, steps_push, steps_longer, fed_in, region_in}
-use Rattle.hg_build.proofs.Fires.{plain_node, constant_node, call_node}
+use Rattle.hg_build.proofs.Fires.{plain_node, constant_node, call_node, load_node, indirect_node, finds_in}
+use Rattle.hg_laws.proofs.Named.{within}
 use Rattle.hg_build.proofs.Grow.{Grown, Off, part_grown, node_grown, count_node, firing_parent, op_new}
 use Rattle.hg_build.proofs.Adds.{NodeAdded, node_added, PortsBelow, SourceBelow, PriorIn, sound_node}
 
@@ -297,6 +298,22 @@ pub call_built : (g : Graph) (base : Base) (p : Place) (width : ℕ) (frs : List
 call_built g base p width frs ss ins outs ps f b ar pi lt =
     let n = length g.nodes in
     node_step g base p width frs ss (Call ins outs) ps (Some f) (call_act f) b refl ar pi lt (λ h d. let more = d.one_more in call_node h n (length h.nodes) n (record { node = f; index = 0 }) ins outs (omega arith) d.at (ap (λ k. feeder h.links (record { node = n; index = k })) (ap (λ op. length (ins_of op)) d.at ∙ ar) ∙ d.static f refl))
+
+-- `op` adds a step that calls the function of its first value
+pub indirect_built : (g : Graph) (base : Base) (p : Place) (width : ℕ) (frs : List Frame) (ss : List Step) (ins outs : Types) (find : List ℕ → Option ℕ) (ps : List Port) → BuiltAt g base p width frs ss → Finds g ins outs find → length (ins_of (CallIndirect ins outs)) ≡ length ps → PortsIn ps (known_after (p.input ∷ []) ss) → BuiltAt (after_node g (CallIndirect ins outs) p.container ps None p.last) base (record p { last = Some (length g.nodes) }) width frs (ss ++ record { node = length g.nodes; ins = ps; act = indirect_act find } ∷ [])
+indirect_built g base p width frs ss ins outs find ps b fs ar pi =
+    node_step g base p width frs ss (CallIndirect ins outs) ps None (indirect_act find) b refl ar pi tt (λ h d.
+    let more = d.one_more in
+    indirect_node h (length g.nodes) (length h.nodes) (length g.nodes) ins outs find (omega arith) d.at (λ name f e. finds_in g h ins outs name f (d.grown p.container (inl refl)).grows (fs name f e)))
+
+-- `load_function` adds a step
+pub load_built : (g : Graph) (base : Base) (p : Place) (width : ℕ) (frs : List Frame) (ss : List Step) (f : ℕ) (name : List ℕ) (ins outs : Types) → BuiltAt g base p width frs ss → op_at g f ≡ FuncDefn name ins outs → BuiltAt (after_node g (LoadFunction ins outs) p.container [] (Some f) None) base p width frs (ss ++ record { node = length g.nodes; ins = []; act = function_act name } ∷ [])
+load_built g base p width frs ss f name ins outs b is =
+    let n = length g.nodes in
+    let lf = within g f name ins outs is in
+    node_step g base p width frs ss (LoadFunction ins outs) [] (Some f) (function_act name) b refl refl tt lf (λ h d.
+    let more = d.one_more in
+    load_node h n (length h.nodes) n (record { node = f; index = 0 }) name ins outs ins outs (omega arith) d.at (ap (λ k. feeder h.links (record { node = n; index = k })) (ap (λ op. length (ins_of op)) d.at) ∙ d.static f refl) ((d.grown p.container (inl refl)).grows.ops f lf ∙ is))
 
 -- a Const is no step
 pub const_built : (g : Graph) (base : Base) (p : Place) (width : ℕ) (frs : List Frame) (ss : List Step) (value : ℤ) → BuiltAt g base p width frs ss → BuiltAt (with_node g (Const value) p.container) base p width frs ss

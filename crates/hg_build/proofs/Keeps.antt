@@ -1,16 +1,16 @@
 -- The clauses on the rules that the calls keep, from what they add.
 use Rattle.std.proofs.Common.{◌≡◌, ℕ, ◌<◌, List, [], ◌∷◌, length, Option, Some, None, ℤ, refl, sym, ap, ◌∙◌, subst}
-use Rattle.hg_ops.specs.Op.{Op, Types, FuncDefn, Call, Cfg, ins_of, outs_of}
+use Rattle.hg_ops.specs.Op.{Op, Types, FuncDefn, Call, LoadFunction, Cfg, ins_of, outs_of}
 use Rattle.hg_graph.specs.Graph.{Graph, Port, op_at}
-use Rattle.hg_build.specs.Wired.{IsNode, IsOpened, IsConstant, IsChoice, IsBlock, IsControl, IsEntered, IsLeft, IsFinished, with_node, call_of, after_node, after_leave, leave_prior, leave_last}
+use Rattle.hg_build.specs.Wired.{IsNode, IsOpened, IsConstant, IsChoice, IsBlock, IsControl, IsEntered, IsLeft, IsFinished, with_node, call_of, load_of, after_node, after_leave, leave_prior, leave_last}
 use Rattle.hg_build.specs.Built.{Frame}
 use Rattle.hg_build.specs.Drawn.{Drawn, DrawnAt}
-use Rattle.hg_build.specs.Kept.{OpenKept, OpKept, ConstantKept, CallKept, ChoiceKept, FlowKept, LeaveKept, FinishKept, EnterKept, BlockKept, ControlKept, DrawnIn}
+use Rattle.hg_build.specs.Kept.{OpenKept, OpKept, ConstantKept, CallKept, LoadKept, ChoiceKept, FlowKept, LeaveKept, FinishKept, EnterKept, BlockKept, ControlKept, DrawnIn}
 use Rattle.hg_build.specs.declared.region.Region.{Region}
 use Rattle.hg_build.specs.declared.region.Place.{Place}
 use Rattle.hg_build.specs.declared.region.Outer.{Outer}
 use Rattle.hg_build.specs.declared.wire.Held.{Held}
-use Rattle.hg_build.proofs.Rules.{op_drawn, constant_kept, call_kept, choice_kept, cfg_kept, open_kept, leave_kept, finish_kept, enter_drawn, block_drawn, exit_drawn, control_drawn}
+use Rattle.hg_build.proofs.Rules.{op_drawn, constant_kept, call_kept, load_kept, choice_kept, cfg_kept, open_kept, leave_kept, finish_kept, enter_drawn, block_drawn, exit_drawn, control_drawn}
 
 kept_from : (r : Region) (g : Graph) (p : Place) (frs : List Frame) → r.graph ≡ g → r.place ≡ p → DrawnAt g p frs → DrawnIn r frs
 kept_from r g p frs e f d = subst (λ x. DrawnAt x r.place frs) (sym e) (subst (λ x. DrawnAt g x frs) (sym f) d)
@@ -29,6 +29,13 @@ call_keeps old new f ps n handed a = record {
   by = λ base width frs ss name ins outs b d lf fn y i.
       let x : IsNode old new (Call ins outs) ps (Some f) n handed = subst (λ k. IsNode old new k ps (Some f) n handed) (ap call_of fn) a in
       kept_from new _ _ frs x.graph x.place (call_kept old.graph base old.place width frs ss f name ins outs ps b d lf fn y i);
+}
+
+pub load_keeps : (old new : Region) (f n : ℕ) (handed : List Held) → IsNode old new (load_of (op_at old.graph f)) [] (Some f) n handed → LoadKept old new f
+load_keeps old new f n handed a = record {
+  by = λ base width frs ss name ins outs b d fn.
+      let x : IsNode old new (LoadFunction ins outs) [] (Some f) n handed = subst (λ k. IsNode old new k [] (Some f) n handed) (ap load_of fn) a in
+      kept_from new _ _ frs x.graph x.place (load_kept old.graph base old.place width frs ss f name ins outs b d fn);
 }
 
 pub choice_keeps : (old new : Region) (rows : List Types) (ins outs : Types) (ps : List Port) (n : ℕ) (handed : List Held) → IsChoice old new rows ins outs ps n handed → ChoiceKept old new rows ins ps

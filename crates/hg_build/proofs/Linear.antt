@@ -8,7 +8,7 @@ use Rattle.hg_graph.specs.Graph.{Graph, Port, Link, Ports, Order, IsGraph, LinkI
 use Rattle.hg_graph.specs.Valid.{LinearOutputsAreTaken}
 use Rattle.hg_laws.proofs.Lists.{get_within}
 use Rattle.hg_build.specs.Steps.{Grows}
-use Rattle.hg_build.specs.Wired.{with_node, with_links, with_cases, after_constant, after_choice, after_ends, after_control, value_links, order_links, static_links, after_node, out_held, port_of, ports_of}
+use Rattle.hg_build.specs.Wired.{with_node, with_links, with_cases, after_constant, after_choice, after_ends, after_control, value_links, order_links, static_links, after_node, out_held, load_of, port_of, ports_of}
 use Rattle.hg_build.specs.Pending.{times, linears, Pends, FitsAt, Fits, Takes, PendsAfter}
 use Rattle.hg_build.specs.Wired.{IsNode, IsOpened, IsConstant, IsChoice, IsBlock, IsControl, IsEntered, IsLeft, IsFinished}
 use Rattle.hg_build.specs.declared.wire.Held.{Held}
@@ -432,6 +432,23 @@ call_pending old new kind f taken n handed a lt nout = pends_is old.graph new.gr
 pub constant_pending : (old new : Region) (value : ℤ) (out : Port) → IsConstant old new value out → old.place.container < length old.graph.nodes → PendsAfter old.graph new.graph [] (record { node = out.node; index = out.index; linear = false } ∷ [])
 constant_pending old new value out a lt =
     pends_is old.graph new.graph _ [] _ _ a.graph (ap (λ (p : Port). record { node = p.node; index = p.index; linear = false } ∷ []) a.wire) (constant_pends old.graph value old.place.container lt)
+
+-- what is loaded is a function, which is copyable
+load_held : (o : Op) (n : ℕ) → out_held n 0 (outs_of (load_of o)) ≡ record { node = n; index = 0; linear = false } ∷ []
+load_held (FuncDefn name ins outs) n = refl
+load_held _ n = refl
+
+pub load_exact : (old new : Region) (o : Op) (f n : ℕ) (handed : List Held) → IsNode old new (load_of o) [] (Some f) n handed → IsNode old new (load_of o) [] (Some f) n (record { node = n; index = 0; linear = false } ∷ [])
+load_exact old new o f n handed a = record {
+  graph = a.graph;
+  place = a.place;
+  number = a.number;
+  wires = ap (λ m. record { node = m; index = 0; linear = false } ∷ []) a.number ∙ sym (load_held o (length old.graph.nodes));
+}
+
+pub load_pending : (old new : Region) (o : Op) (f n : ℕ) (handed : List Held) → IsNode old new (load_of o) [] (Some f) n handed → f < length old.graph.nodes → outs_of (op_at old.graph f) ≡ [] → PendsAfter old.graph new.graph [] (record { node = n; index = 0; linear = false } ∷ [])
+load_pending old new o f n handed a lt nout =
+    pends_is old.graph new.graph _ [] _ _ a.graph (load_exact old new o f n handed a).wires (node_pends old.graph (load_of o) old.place.container [] (Some f) _ (lt, nout))
 
 pub choice_pending : (old new : Region) (rows : List Types) (ins outs : Types) (taken : List Held) (n : ℕ) (handed : List Held) → IsChoice old new rows ins outs (ports_of taken) n handed → old.place.container < length old.graph.nodes → PendsAfter old.graph new.graph taken handed
 choice_pending old new rows ins outs taken n handed a lt = pends_is old.graph new.graph _ taken handed _ a.graph a.wires (choice_pends old.graph rows ins outs old.place.container taken lt)

@@ -5,8 +5,9 @@ use Rattle.hg_ops.specs.GraphType.{GraphType, sum_type}
 use Rattle.hg_ops.specs.Op.{Op, Types, Module, FuncDefn, Const, Input, Output, Dfg, Cfg, DataflowBlock, ExitBlock, Conditional, Case, TailLoop, Tag, Call, CallIndirect, LoadConstant, LoadFunction, Ext, ControlPort, ins_of, outs_of, input_ports, output_ports, is_operation, is_dataflow_container, fires, is_effect, inner_ins, inner_outs}
 use Rattle.hg_graph.specs.Graph.{Graph, Port, Ports, Order, IsGraph, op_at, parent_at, children, firing_children}
 use Rattle.hg_graph.specs.Valid.{may_stand_in, stands_in_region, is_module, name_of, KeepsTags, is_output, is_input, JoinsPorts}
+use Rattle.hg_laws.proofs.Named.{within}
 use Rattle.hg_laws.proofs.Children.{child_is, kid_is, get_in}
-use Rattle.hg_build.specs.Steps.{Step, nodes_of, PortsIn, StepsAt, known_after, is_plain, Grows, Hole, Way}
+use Rattle.hg_build.specs.Steps.{Step, nodes_of, PortsIn, StepsAt, known_after, is_leaf, Grows, Hole, Way}
 use Rattle.hg_build.specs.Wired.{static_links, with_node, with_links, with_cases, value_links, order_links, after_node, after_constant, after_choice, after_ends, inner_place, after_leave, after_control, effect_prior, last_after, leave_prior, leave_last, adds_order}
 use Rattle.hg_build.specs.Built.{Sound, LastIn, OpenAt, Frame, Halfway, Base, ModuleAt, Below, BuiltAt, HolesRise, FillingAt, Flow, Fill}
 use Rattle.hg_build.specs.Drawn.{Drawn, DrawnAt, dues, Flows, Typed, Blockish}
@@ -19,7 +20,7 @@ use Rattle.hg_build.proofs.Frames.{stands, Stands, rise_top, rise_get, in_end}
 use Rattle.hg_build.proofs.Containers.{with_cases_more, prior_rises}
 use Rattle.hg_build.proofs.Adds.{OrderFits}
 use Rattle.hg_build.proofs.Joins.{with_none}
-use Rattle.hg_build.proofs.Draws.{NodeFits, AllBelow, InRegion, PriorFits, after_drawn, call_drawn, silent_drawn, output_drawn, drawn_values, drawn_prior, drawn_constant, drawn_other, drawn_start, is_static, free_static, Beside}
+use Rattle.hg_build.proofs.Draws.{NodeFits, AllBelow, InRegion, PriorFits, after_drawn, call_drawn, load_drawn, silent_drawn, output_drawn, drawn_values, drawn_prior, drawn_constant, drawn_other, drawn_start, is_static, free_static, Beside}
 
 -- ---- what stands in a region
 stands_in : (o kind : Op) → is_dataflow_container o ≡ true → may_stand_in o kind ≡ stands_in_region kind
@@ -136,10 +137,11 @@ drawn_from g h base p last width frs ss b d w x =
     }
 
 -- ---- `op`
-plain_kind : (kind : Op) → is_plain kind ≡ true → (is_module kind ≡ false) × (stands_in_region kind ≡ true) × (name_of kind ≡ None) × (is_static kind ≡ false) × (is_operation kind ≡ true) × (is_input kind ≡ false)
-plain_kind (Tag rows k) e = (refl, refl, refl, refl, refl, refl)
-plain_kind (Ext x) e = (refl, refl, refl, refl, refl, refl)
-plain_kind _ e = absurd (wrong e)
+leaf_kind : (kind : Op) → is_leaf kind ≡ true → (is_module kind ≡ false) × (stands_in_region kind ≡ true) × (name_of kind ≡ None) × (is_static kind ≡ false) × (is_operation kind ≡ true) × (is_input kind ≡ false)
+leaf_kind (Tag rows k) e = (refl, refl, refl, refl, refl, refl)
+leaf_kind (Ext x) e = (refl, refl, refl, refl, refl, refl)
+leaf_kind (CallIndirect ins outs) e = (refl, refl, refl, refl, refl, refl)
+leaf_kind _ e = absurd (wrong e)
   where
     wrong : false ≡ true → ⊥
     wrong e = cc
@@ -162,9 +164,9 @@ after_grows g kind c ps source prior =
     let g3 = with_links g2 (static_links source n (length ps)) in
     grows_trans g g1 (with_links g3 (order_links prior n)) (node_grows g kind c) (grows_trans g1 g2 (with_links g3 (order_links prior n)) (links_grow g1 (value_links n 0 ps)) (grows_trans g2 g3 (with_links g3 (order_links prior n)) (links_grow g2 (static_links source n (length ps))) (links_grow g3 (order_links prior n))))
 
-pub op_drawn : (g : Graph) (base : Base) (p : Place) (width : ℕ) (frs : List Frame) (ss : List Step) (kind : Op) (ps : List Port) → BuiltAt g base p width frs ss → DrawnAt g p frs → is_plain kind ≡ true → KeepsTags kind → Typed g ps (ins_of kind) → PortsIn ps (known_after (p.input ∷ []) ss) → DrawnAt (after_node g kind p.container ps None (effect_prior p.last kind)) (record p { last = last_after p.last kind (length g.nodes) }) frs
+pub op_drawn : (g : Graph) (base : Base) (p : Place) (width : ℕ) (frs : List Frame) (ss : List Step) (kind : Op) (ps : List Port) → BuiltAt g base p width frs ss → DrawnAt g p frs → is_leaf kind ≡ true → KeepsTags kind → Typed g ps (ins_of kind) → PortsIn ps (known_after (p.input ∷ []) ss) → DrawnAt (after_node g kind p.container ps None (effect_prior p.last kind)) (record p { last = last_after p.last kind (length g.nodes) }) frs
 op_drawn g base p width frs ss kind ps b d is t y i =
-    let k = plain_kind kind is in
+    let k = leaf_kind kind is in
     let pf = prior_if g p.container p.last (is_effect kind) (prior_of g p.container p.last (nodes_of ss) (dues p frs) [] d.drawn (flows_head g p frs d.flows) b.open_at.laid.firing b.open_at.last) in
     drawn_from g (after_node g kind p.container ps None (effect_prior p.last kind)) base p (last_after p.last kind (length g.nodes)) width frs ss b d (after_grows g kind p.container ps None (effect_prior p.last kind)) (region_drawn g base p width frs ss kind ps (effect_prior p.last kind) b d k.0 k.1 k.2 k.3 k.4 k.5 t y i pf)
 
@@ -179,6 +181,14 @@ call_kept g base p width frs ss f name ins outs ps b d lf fn y i =
     let kind = Call ins outs in
     drawn_from g (after_node g kind p.container ps (Some f) p.last) base p (Some (length g.nodes)) width frs ss b d (after_grows g kind p.container ps (Some f) p.last)
     (call_drawn g f p.container name ins outs ps p.last (dues p frs) [] d.drawn (region_fits g kind p.container (omega arith) (flows_head g p frs d.flows) refl refl refl tt) (dues_below g base p width frs ss b) (λ m x. absurd x) y (scope_region g p width ss ps b.open_at i) (prior_region g base p width frs ss b d) lf fn)
+
+pub load_kept : (g : Graph) (base : Base) (p : Place) (width : ℕ) (frs : List Frame) (ss : List Step) (f : ℕ) (name : List ℕ) (ins outs : Types) → BuiltAt g base p width frs ss → DrawnAt g p frs → op_at g f ≡ FuncDefn name ins outs → DrawnAt (after_node g (LoadFunction ins outs) p.container [] (Some f) None) p frs
+load_kept g base p width frs ss f name ins outs b d fn =
+    let z = stands g p width ss b.open_at in
+    let z0 = z.above in let z1 = z.next in let z2 = z.within in
+    let kind = LoadFunction ins outs in
+    drawn_from g (after_node g kind p.container [] (Some f) None) base p p.last width frs ss b d (after_grows g kind p.container [] (Some f) None)
+    (load_drawn g f p.container name ins outs (dues p frs) [] d.drawn (region_fits g kind p.container (omega arith) (flows_head g p frs d.flows) refl refl refl tt) (dues_below g base p width frs ss b) (λ m x. absurd x) (within g f name ins outs fn) fn)
 
 pub constant_kept : (g : Graph) (base : Base) (p : Place) (width : ℕ) (frs : List Frame) (ss : List Step) (value : ℤ) → BuiltAt g base p width frs ss → DrawnAt g p frs → DrawnAt (after_constant g value p.container) p frs
 constant_kept g base p width frs ss value b d =

@@ -3,11 +3,11 @@ use Rattle.std.specs.Prelude.{◌≡◌, ◌≢◌, ◌≤◌, ◌<◌, ◌⊎�
 use Rattle.gp_base.specs.Membership.{In}
 use Rattle.gp_base.specs.Run.{Run, Out, Returned, Stopped, Stop, TurnsUsed, OutcomesUsed, DivisionByZero, Stuck, ◌>>=◌, ret, stop, or_stuck}
 use Rattle.gp_base.specs.World.{World, take_turn}
-use Rattle.hg_ops.specs.Op.{Op, Types, FuncDefn, DataflowBlock, ExitBlock, Case, Tag, Ext, ins_of, fires}
+use Rattle.hg_ops.specs.Op.{Op, Types, FuncDefn, DataflowBlock, ExitBlock, Case, Tag, CallIndirect, Ext, ins_of, fires}
 use Rattle.hg_graph.specs.Graph.{Graph, Port, Order, op_at, parent_at, children, firing_children, feeder, taker, is_port}
 use Rattle.hg_graph.specs.Run.{Fired, Open, outs_at, value_of, cons_both, State, Enter, no_note, fire, region, enter_op, perform, graph_run}
-use Rattle.hg_graph.specs.Valid.{IsValid}
-use Rattle.hg_graph.specs.Value.{Value, Int, Variant, values}
+use Rattle.hg_graph.specs.Valid.{IsValid, HasNewName}
+use Rattle.hg_graph.specs.Value.{Value, Int, Variant, Function, values}
 
 -- What a node or a region does with its inputs, where `calls` says what functions do.
 abbrev pub Act : Type 0
@@ -147,6 +147,32 @@ constant_act value calls vs = ret (Int value ∷ [])
 abbrev pub call_act : ℕ → Calls → Act
 call_act f calls vs = take_turn >>= (λ _. calls f vs)
 
+-- a function as a value
+abbrev pub function_act : List ℕ → Calls → Act
+function_act name calls vs = ret (Function name ∷ [])
+
+abbrev pub found_act : Option ℕ → Calls → Act
+found_act None calls vs = stop Stuck
+found_act (Some f) calls vs = call_act f calls vs
+
+-- the name that the first value is, and the other values
+abbrev pub by_name : List Value → (List ℕ → List Value → Run World (List Value)) → Run World (List Value)
+by_name (Function name ∷ others) go = go name others
+by_name _ go = stop Stuck
+
+-- a turn, and then the function of the name, where `find` has one
+abbrev pub indirect_act : (find : List ℕ → Option ℕ) → Calls → Act
+indirect_act find calls vs = by_name vs (λ name us. found_act (find name) calls us)
+
+-- the node is the first function of the name, and has these types
+pub record IsNamed (g : Graph) (ins outs : Types) (name : List ℕ) (f : ℕ) : Type 0 where
+  pub is : op_at g f ≡ FuncDefn name ins outs
+  pub new : HasNewName g f name
+
+-- what `find` finds are functions with these types
+abbrev pub Finds : Graph → Types → Types → (List ℕ → Option ℕ) → Type 0
+Finds g ins outs find = (name : List ℕ) (f : ℕ) → find name ≡ Some f → IsNamed g ins outs name f
+
 -- A region that may wait to be filled: its container, and what it does once it is filled.
 pub record Hole : Type 0 where
   pub node : ℕ
@@ -211,6 +237,11 @@ abbrev pub is_plain : Op → Bool
 is_plain (Tag rows tag) = true
 is_plain (Ext e) = true
 is_plain _ = false
+
+-- and these with the call of a function that is a value
+abbrev pub is_leaf : Op → Bool
+is_leaf (CallIndirect ins outs) = true
+is_leaf kind = is_plain kind
 
 -- ---- holes in a graph
 

@@ -5,11 +5,11 @@ ghost use Rattle.std.specs.Option.{option_map};
 ghost use Rattle.hg_ops.specs.OpView.{op_view};
 ghost use Rattle.hg_graph.specs.Graph.{children};
 ghost use Rattle.hg_graph.specs.View.{number_of, port_view};
-ghost use Rattle.hg_build.specs.Wired.{ports_of, plain_held, IsNode, IsOpened, IsConstant, call_of, IsChoice, IsBlock, IsControl, IsEntered, IsLeft, IsFinished};
+ghost use Rattle.hg_build.specs.Wired.{ports_of, plain_held, IsNode, IsOpened, IsConstant, call_of, load_of, IsChoice, IsBlock, IsControl, IsEntered, IsLeft, IsFinished};
 ghost use Rattle.hg_ops.specs.Op.{Cfg, ins_of, outs_of};
 ghost use Rattle.hg_build.specs.Pending.{PendsAfter};
-ghost use Rattle.hg_build.specs.Kept.{OpenKept, OpKept, ConstantKept, CallKept, ChoiceKept, FlowKept, LeaveKept, FinishKept, EnterKept, BlockKept, ControlKept};
-ghost use Rattle.hg_build.specs.Clauses.{OpenBuilt, OpBuilt, ConstantBuilt, CallBuilt, ChoiceBuilt, FlowBuilt, BlockBuilt, ControlBuilt, EnterBuilt, LeaveBuilt, FinishBuilt};
+ghost use Rattle.hg_build.specs.Kept.{OpenKept, OpKept, ConstantKept, CallKept, LoadKept, ChoiceKept, FlowKept, LeaveKept, FinishKept, EnterKept, BlockKept, ControlKept};
+ghost use Rattle.hg_build.specs.Clauses.{OpenBuilt, OpBuilt, ConstantBuilt, CallBuilt, LoadBuilt, ChoiceBuilt, FlowBuilt, BlockBuilt, ControlBuilt, EnterBuilt, LeaveBuilt, FinishBuilt};
 ghost use Rattle.hg_graph.specs.Graph.{op_at};
 
 use crate::growing::{add, add_cases, follow, inner_rows, join, link};
@@ -248,6 +248,17 @@ impl Region {
         Ok(Wires { items: outs })
     }
 
+    /// Adds the load of a function of the graph as a value, with its static link.
+    pub fn load_function(&mut self, function: NodeId) -> Result<Wire, BuildFault>
+        ensures exact { IfOk result (λ w. IsNode self.old self.new (load_of (op_at self.old.graph function.0)) [] (Some function.0) w.node (plain_held w ∷ [])) }
+        ensures built { OnOk result (LoadBuilt self.old self.new function.0) }
+        ensures pending { IfOk result (λ w. function.0 < length self.old.graph.nodes → outs_of (op_at self.old.graph function.0) ≡ [] → PendsAfter self.old.graph self.new.graph [] (plain_held w ∷ [])) }
+        ensures kept { OnOk result (LoadKept self.old self.new function.0) }
+    {
+        let (node, _) = self.add_load(function.0)?;
+        Ok(Wire { node, index: 0 })
+    }
+
     /// Adds a `Conditional`, its value links and its empty cases.
     pub fn conditional(
         &mut self,
@@ -372,6 +383,28 @@ impl Region {
         };
         let (_, outs) = self.node(op, items, Some(function))?;
         Ok(outs)
+    }
+
+    // Adds the load of a function, with the function's types.
+    fn add_load(&mut self, function: u64) -> Result<(u64, Vec<Held>), BuildFault>
+        ensures { IfOk result (λ r. IsNode self.old self.new (load_of (op_at self.old.graph function)) [] (Some function) r.0 r.1.items) }
+    {
+        if function >= self.graph.node_count() {
+            return Err(BuildFault::Memory);
+        }
+        let alloc = self.alloc;
+        let op = match self.graph.op(NodeId(function)) {
+            OpKind::FuncDefn { ins, outs, .. } => OpKind::LoadFunction {
+                ins: ins.copy(alloc)?,
+                outs: outs.copy(alloc)?,
+            },
+            _ => OpKind::LoadFunction {
+                ins: Row::new(alloc),
+                outs: Row::new(alloc),
+            },
+        };
+        let loaded = self.node(op, &[], Some(function))?;
+        Ok(loaded)
     }
 
     // Adds a child to a CFG.

@@ -67,7 +67,7 @@ abbrev pub SourceBelow : ℕ → Option ℕ → Type 0
 SourceBelow n None = Unit {0}
 SourceBelow n (Some f) = f < n
 
-static_within : (source : Option ℕ) (n t q : ℕ) → t < n → SourceBelow n source → (link : Link) → In link (static_links source t q) → LinkIsWithin n link
+pub static_within : (source : Option ℕ) (n t q : ℕ) → t < n → SourceBelow n source → (link : Link) → In link (static_links source t q) → LinkIsWithin n link
 static_within None n t q lt b link i = absurd i
 static_within (Some f) n t q lt b link (inl e) = subst (LinkIsWithin n) (sym e) (b, lt)
 static_within (Some f) n t q lt b link (inr i) = absurd i
@@ -129,7 +129,7 @@ pub ports_more : (n m : ℕ) (ps : List Port) → n ≤ m → PortsBelow n ps �
 ports_more n m [] le b = tt
 ports_more n m (p ∷ ps) le b = let x = b.0 in (omega arith, ports_more n m ps le b.1)
 
-source_more : (n m : ℕ) (source : Option ℕ) → n ≤ m → SourceBelow n source → SourceBelow m source
+pub source_more : (n m : ℕ) (source : Option ℕ) → n ≤ m → SourceBelow n source → SourceBelow m source
 source_more n m None le b = tt
 source_more n m (Some f) le b = omega arith
 

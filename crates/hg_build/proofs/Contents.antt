@@ -8,7 +8,8 @@ use Rattle.hg_laws.proofs.Children.{child_is, is_child, get_in}
 use Rattle.hg_laws.proofs.Lists.{get_within}
 use Rattle.hg_build.specs.Steps.{Grows}
 use Rattle.hg_build.specs.Wired.{with_node, with_links, with_cases, after_ends, after_node, after_choice, value_links, order_links, static_links}
-use Rattle.hg_build.specs.Drawn.{Contains, Contained, Typed}
+use Rattle.hg_build.specs.Drawn.{Contains, Typed}
+use Rattle.hg_build.specs.Containing.{with_cases_of}
 use Rattle.hg_build.proofs.Real.{in_split, in_last}
 use Rattle.hg_build.proofs.Moves.{grows_trans}
 use Rattle.hg_build.proofs.Grow.{count_node, op_old, op_new, parent_old, parent_new, op_links, parent_links, children_links, children_parent, children_other, no_children, node_grows, links_grow, get_end, graph_node}
@@ -111,7 +112,7 @@ no_block : (g : Graph) (n : ℕ) (kind : Op) → is_block kind ≡ false → Kee
 no_block g n (DataflowBlock ins rows others) e = absurd cc
 no_block g n _ e = tt
 
-clash : {A : Type 0} (b : Bool) → b ≡ true → b ≡ false → A
+pub clash : {A : Type 0} (b : Bool) → b ≡ true → b ≡ false → A
 clash b t f = absurd cc
 
 pub node_contained : (g : Graph) (kind : Op) (p : ℕ) (empty unready : List ℕ) → IsGraph g → p < length g.nodes → MayAdd g kind p empty unready → Contains g empty unready → Contains (with_node g kind p) (length g.nodes ∷ empty) (length g.nodes ∷ unready)
@@ -223,10 +224,6 @@ ready_now g n empty unready b c s d = record {
     by_eq : {A B : Type 0} → (B → A) → ((B → ⊥) → A) → B ⊎ (B → ⊥) → A
     by_eq f h (inl q) = f q
     by_eq f h (inr ne) = h ne
-
--- in the end
-pub all_contained : (g : Graph) → Contains g [] [] → Contained g
-all_contained g d = record { bounds = λ n l e. d.bounds n l e (λ x. x); blocks = λ n l. d.blocks n l (λ x. x); cases = λ n l. d.cases n l (λ x. x); successors = λ n l. d.successors n l (λ x. x) }
 
 -- what is neither a Conditional nor a CFG and has no child is ready
 abbrev pub is_plain_node : Op → Bool
@@ -375,7 +372,7 @@ cases_next n row rows ins outs g lt r =
         let j : length g1.nodes + k ≡ length g.nodes + suc k = let m = more in omega arith in
         (subst (λ u. slice_get (children (with_cases g1 n rows ins outs) n) u ≡ Some (length g.nodes + suc k)) i (y.0 ∙ ap Some j), subst (λ u. op_at (with_cases g1 n rows ins outs) u ≡ Case (x ++ ins) outs) j y.1)
 
-cases_from : (n : ℕ) (rows : List Types) (ins outs : Types) (g : Graph) → n < length g.nodes → CasesFrom (with_cases g n rows ins outs) n (length g.nodes) (children g n) rows ins outs
+pub cases_from : (n : ℕ) (rows : List Types) (ins outs : Types) (g : Graph) → n < length g.nodes → CasesFrom (with_cases g n rows ins outs) n (length g.nodes) (children g n) rows ins outs
 cases_from n [] ins outs g lt = record { count = ap (λ x. length (children x n)) same ∙ omega arith; each = λ k row e. absurd (none k row e) }
   where
     same : with_cases g n [] ins outs ≡ g
@@ -390,17 +387,12 @@ in_get [] x i = absurd i
 in_get (y ∷ xs) x (inl e) = (0, ap Some (sym e))
 in_get (y ∷ xs) x (inr i) = let r = in_get xs x i in (suc r.0, r.1)
 
-get_at : (rows : List Types) (k : ℕ) → k < length rows → (row : Types) × (slice_get rows k ≡ Some row)
+pub get_at : (rows : List Types) (k : ℕ) → k < length rows → (row : Types) × (slice_get rows k ≡ Some row)
 get_at [] k lt = absurd (omega arith)
 get_at (row ∷ rows) zero lt = (row, refl)
 get_at (row ∷ rows) (suc k) lt = get_at rows k (omega arith)
 
--- the numbers of the cases, before others
-abbrev pub before : ℕ → List Types → List ℕ → List ℕ
-before first [] empty = empty
-before first (row ∷ rows) empty = before (suc first) rows (first ∷ empty)
-
-cases_contained : (n : ℕ) (rows : List Types) (ins outs : Types) (empty unready : List ℕ) (g : Graph) → IsGraph g → n < length g.nodes → is_dataflow_container (op_at g n) ≡ false → In n unready → (In n empty → ⊥) → Contains g empty unready → Contains (with_cases g n rows ins outs) (before (length g.nodes) rows empty) unready
+cases_contained : (n : ℕ) (rows : List Types) (ins outs : Types) (empty unready : List ℕ) (g : Graph) → IsGraph g → n < length g.nodes → is_dataflow_container (op_at g n) ≡ false → In n unready → (In n empty → ⊥) → Contains g empty unready → Contains (with_cases g n rows ins outs) (with_cases_of (length g.nodes) rows empty) unready
 cases_contained n [] ins outs empty unready g s lt nd i ne d = subst (λ h. Contains h empty unready) (ap (λ x. record g { nodes = x }) (sym (append-nil g.nodes))) d
 cases_contained n (row ∷ rows) ins outs empty unready g s lt nd i ne d =
     let kind = Case (row ++ ins) outs in
@@ -411,8 +403,8 @@ cases_contained n (row ∷ rows) ins outs empty unready g s lt nd i ne d =
     let s1 = graph_node g kind n lt s in
     let d1 : Contains g1 (m ∷ empty) unready = ready_now g1 m (m ∷ empty) unready (subst (KeepsBlocks g1 m) (sym at) tt) (subst (KeepsCases g1 m) (sym at) tt) (λ x l q. absurd (no_child g kind n s lt x l q)) (node_contained g kind n empty unready s lt (ne, inl (i, nd)) d) in
     let nm : In n (m ∷ empty) → ⊥ = λ j. ⊎_elim (λ e. omega arith) ne j in
-    subst (λ h. Contains h (before m (row ∷ rows) empty) unready) (sym (with_cases_more g n row rows ins outs))
-    (subst (λ k. Contains (with_cases g1 n rows ins outs) (before k rows (m ∷ empty)) unready) more (cases_contained n rows ins outs (m ∷ empty) unready g1 s1 (omega arith) (ap is_dataflow_container (op_old g kind n n lt) ∙ nd) i nm d1))
+    subst (λ h. Contains h (with_cases_of m (row ∷ rows) empty) unready) (sym (with_cases_more g n row rows ins outs))
+    (subst (λ k. Contains (with_cases g1 n rows ins outs) (with_cases_of k rows (m ∷ empty)) unready) more (cases_contained n rows ins outs (m ∷ empty) unready g1 s1 (omega arith) (ap is_dataflow_container (op_old g kind n n lt) ∙ nd) i nm d1))
 
 -- ---- a node with its links
 typed_no_block : (g : Graph) (n k : ℕ) (ins : Types) (rows : List Types) (others : Types) (ps : List Port) (ts : Types) → op_at g n ≡ DataflowBlock ins rows others → Typed g ps ts → times ps (record { node = n; index = k }) ≡ 0
@@ -431,12 +423,12 @@ typed_no_block g n k ins rows others (p ∷ ps) (t ∷ ts) at y =
         let q : p.node ≡ n = ap (λ (z : Port). z.node) (port_is p (record { node = n; index = k }) e) in
         absurd (none p.index (ap (λ ts. slice_get ts p.index) (sym (ap (λ x. outs_of (op_at g x)) q ∙ ap outs_of at)) ∙ y.0))
 
-values_same : (g : Graph) (t : ℕ) (ps : List Port) (ts : Types) → Typed g ps ts → SameBlocks g (with_links g (value_links t 0 ps))
+pub values_same : (g : Graph) (t : ℕ) (ps : List Port) (ts : Types) → Typed g ps ts → SameBlocks g (with_links g (value_links t 0 ps))
 values_same g t ps ts y = record {
   by = λ n k ins rows others l at. let a = from_append g.links (value_links t 0 ps) (record { node = n; index = k }) in let b = from_values t 0 ps (record { node = n; index = k }) in let c = typed_no_block g n k ins rows others ps ts at y in omega arith;
 }
 
-order_same : (g : Graph) (last : Option ℕ) (t : ℕ) → SameBlocks g (with_links g (order_links last t))
+pub order_same : (g : Graph) (last : Option ℕ) (t : ℕ) → SameBlocks g (with_links g (order_links last t))
 order_same g last t = record {
   by = λ n k ins rows others l at. let a = from_append g.links (order_links last t) (record { node = n; index = k }) in let b = from_order last t (record { node = n; index = k }) in omega arith;
 }
@@ -454,7 +446,7 @@ start_contained g kind c ps prior empty unready s lt ne fl nb nk nd y s2 d =
     subst (λ x. Contains (with_links x (order_links prior n)) empty (n ∷ unready)) e (links_contained g2 (order_links prior n) empty (n ∷ unready) s2 (order_same g2 prior n) d2)
 
 -- `conditional` in whole
-pub choice_contained : (g : Graph) (rows : List Types) (ins outs : Types) (c : ℕ) (ps : List Port) (empty unready : List ℕ) → IsGraph g → c < length g.nodes → (In c empty → ⊥) → ((m : ℕ) → In m empty → m < length g.nodes) → is_dataflow_container (op_at g c) ≡ true → Typed (with_node g (Conditional rows ins outs) c) ps (ins_of (Conditional rows ins outs)) → IsGraph (with_links (with_node g (Conditional rows ins outs) c) (value_links (length g.nodes) 0 ps)) → IsGraph (after_node g (Conditional rows ins outs) c ps None None) → op_at (after_node g (Conditional rows ins outs) c ps None None) (length g.nodes) ≡ Conditional rows ins outs → children (after_node g (Conditional rows ins outs) c ps None None) (length g.nodes) ≡ [] → Contains g empty unready → Contains (after_choice g rows ins outs c ps) (before (suc (length g.nodes)) rows empty) unready
+pub choice_contained : (g : Graph) (rows : List Types) (ins outs : Types) (c : ℕ) (ps : List Port) (empty unready : List ℕ) → IsGraph g → c < length g.nodes → (In c empty → ⊥) → ((m : ℕ) → In m empty → m < length g.nodes) → is_dataflow_container (op_at g c) ≡ true → Typed (with_node g (Conditional rows ins outs) c) ps (ins_of (Conditional rows ins outs)) → IsGraph (with_links (with_node g (Conditional rows ins outs) c) (value_links (length g.nodes) 0 ps)) → IsGraph (after_node g (Conditional rows ins outs) c ps None None) → op_at (after_node g (Conditional rows ins outs) c ps None None) (length g.nodes) ≡ Conditional rows ins outs → children (after_node g (Conditional rows ins outs) c ps None None) (length g.nodes) ≡ [] → Contains g empty unready → Contains (after_choice g rows ins outs c ps) (with_cases_of (suc (length g.nodes)) rows empty) unready
 choice_contained g rows ins outs c ps empty unready s lt ne below fl y s2 s3 at none d =
     let n = length g.nodes in
     let kind = Conditional rows ins outs in
@@ -462,12 +454,12 @@ choice_contained g rows ins outs c ps empty unready s lt ne below fl y s2 s3 at 
     let more : length h1.nodes ≡ suc n = count_node g kind c in
     let h = with_cases h1 n rows ins outs in
     let d1 = start_contained g kind c ps None empty unready s lt ne fl refl refl refl y s2 d in
-    let d2 : Contains h (before (suc n) rows empty) (n ∷ unready) = subst (λ k. Contains h (before k rows empty) (n ∷ unready)) more (cases_contained n rows ins outs empty (n ∷ unready) h1 s3 (omega arith) (ap is_dataflow_container at) (inl refl) (λ i. let x = below n i in omega arith) d1) in
+    let d2 : Contains h (with_cases_of (suc n) rows empty) (n ∷ unready) = subst (λ k. Contains h (with_cases_of k rows empty) (n ∷ unready)) more (cases_contained n rows ins outs empty (n ∷ unready) h1 s3 (omega arith) (ap is_dataflow_container at) (inl refl) (λ i. let x = below n i in omega arith) d1) in
     let cf = cases_from n rows ins outs h1 (omega arith) in
     let w = cases_grow n rows ins outs h1 in
     let op : op_at h n ≡ kind = w.ops n (omega arith) ∙ at in
     let zero_len : length (children h1 n) ≡ 0 = ap length none in
-    ready_now h n (before (suc n) rows empty) unready (subst (KeepsBlocks h n) (sym op) tt) (subst (KeepsCases h n) (sym op) (record {
+    ready_now h n (with_cases_of (suc n) rows empty) unready (subst (KeepsBlocks h n) (sym op) tt) (subst (KeepsCases h n) (sym op) (record {
       count = let a = cf.count in omega arith;
       each = λ k row e. let x = cf.each k row e in record { case = length h1.nodes + k; is_child = subst (λ u. slice_get (children h n) u ≡ Some (length h1.nodes + k)) (omega (arith, zero_len)) x.0; case_is = x.1 };
     })) (λ m l q. no_block h m (op_at h m) (case_child m l q cf zero_len (is_child h n m l q (apart m q (w.parents n (omega arith) ∙ par))))) d2

@@ -683,7 +683,7 @@ abbrev pub InRegion : Graph → ℕ → List Port → Type 0
 InRegion g c [] = Unit {0}
 InRegion g c (p ∷ ps) = (p.node < length g.nodes) × (parent_at g p.node ≡ c) × InRegion g c ps
 
-typed_node : (g : Graph) (kind : Op) (c : ℕ) (ps : List Port) (ts : Types) → InRegion g c ps → Typed g ps ts → Typed (with_node g kind c) ps ts
+pub typed_node : (g : Graph) (kind : Op) (c : ℕ) (ps : List Port) (ts : Types) → InRegion g c ps → Typed g ps ts → Typed (with_node g kind c) ps ts
 typed_node g kind c [] [] r y = tt
 typed_node g kind c [] (t ∷ ts) r y = absurd y
 typed_node g kind c (p ∷ ps) [] r y = absurd y

@@ -84,11 +84,11 @@ scope_region g p width ss [] y i = tt
 scope_region g p width ss (x ∷ ps) y i = let c = known_child g p width ss x.node y i.0 in (c.0, c.1, scope_region g p width ss ps y i.1)
 
 -- ---- what is due
-flows_head : (g : Graph) (p : Place) (frs : List Frame) → Flows g p frs → is_dataflow_container (op_at g p.container) ≡ true
+pub flows_head : (g : Graph) (p : Place) (frs : List Frame) → Flows g p frs → is_dataflow_container (op_at g p.container) ≡ true
 flows_head g p [] f = f
 flows_head g p (fr ∷ frs) f = f.0
 
-outer_below : (g : Graph) (base : Base) (c i : ℕ) (fr : Frame) (frs : List Frame) → Below g base c i (fr ∷ frs) → (fr.outer.place.container < fr.outer.place.input) × (fr.outer.place.input < fr.outer.place.output) × (fr.outer.place.output < i) × (i ≤ length g.nodes)
+pub outer_below : (g : Graph) (base : Base) (c i : ℕ) (fr : Frame) (frs : List Frame) → Below g base c i (fr ∷ frs) → (fr.outer.place.container < fr.outer.place.input) × (fr.outer.place.input < fr.outer.place.output) × (fr.outer.place.output < i) × (i ≤ length g.nodes)
 outer_below g base c i fr frs b =
     let y = b.1 in
     let d : suc fr.outer.place.output ≤ fr.outer.node = steps_rise g (fr.outer.place.input ∷ []) (suc fr.outer.place.output) fr.outer.node fr.steps y.steps in
@@ -156,7 +156,7 @@ region_drawn g base p width frs ss kind ps prior b d m s n st op ni t y i pf =
     let z0 = z.above in let z1 = z.next in let z2 = z.within in
     after_drawn g kind p.container ps prior (dues p frs) [] d.drawn (region_fits g kind p.container (omega arith) (flows_head g p frs d.flows) m s n t) (dues_below g base p width frs ss b) y (scope_region g p width ss ps b.open_at i) pf st op ni
 
-after_grows : (g : Graph) (kind : Op) (c : ℕ) (ps : List Port) (source prior : Option ℕ) → Grows g (after_node g kind c ps source prior)
+pub after_grows : (g : Graph) (kind : Op) (c : ℕ) (ps : List Port) (source prior : Option ℕ) → Grows g (after_node g kind c ps source prior)
 after_grows g kind c ps source prior =
     let n = length g.nodes in
     let g1 = with_node g kind c in
@@ -263,7 +263,7 @@ ends_drawn g c ins outs due d lt fl b =
     let fl1 : is_dataflow_container (op_at g1 c) ≡ true = ap is_dataflow_container (op_old g (Input ins) c c lt) ∙ fl in
     subst (λ m. Drawn (after_ends g c ins outs) (m ∷ due) []) more (output_drawn g1 outs c due [] d1 (region_fits g1 (Output outs) c (omega arith) fl1 refl refl refl tt))
 
-ends_grow : (g : Graph) (c : ℕ) (ins outs : Types) → Grows g (after_ends g c ins outs)
+pub ends_grow : (g : Graph) (c : ℕ) (ins outs : Types) → Grows g (after_ends g c ins outs)
 ends_grow g c ins outs = grows_trans g (with_node g (Input ins) c) (after_ends g c ins outs) (node_grows g (Input ins) c) (node_grows (with_node g (Input ins) c) (Output outs) c)
 
 pub open_kept : (g : Graph) (c : ℕ) (ins outs : Types) → Drawn g [] [] → c < length g.nodes → is_dataflow_container (op_at g c) ≡ true → DrawnAt (after_ends g c ins outs) (inner_place g c) []
@@ -390,7 +390,7 @@ control_kept g from to ins rows others due d fl tl at lt bl par = drawn_other g 
 })
 
 -- ---- while a node waits to be filled
-filling_stands : (g : Graph) (base : Base) (p : Place) (width : ℕ) (frs : List Frame) (ss : List Step) (n : ℕ) (ps : List Port) (fill : Fill) (holes : List Hole) → FillingAt g base p width frs ss n ps fill holes → (p.container < p.input) × (p.input < p.output) × (p.output < n) × (n < length g.nodes)
+pub filling_stands : (g : Graph) (base : Base) (p : Place) (width : ℕ) (frs : List Frame) (ss : List Step) (n : ℕ) (ps : List Port) (fill : Fill) (holes : List Hole) → FillingAt g base p width frs ss n ps fill holes → (p.container < p.input) × (p.input < p.output) × (p.output < n) × (n < length g.nodes)
 filling_stands g base p width frs ss n ps fill holes b =
     let y = b.halfway in
     let a = y.above in let c = y.next in
@@ -399,13 +399,13 @@ filling_stands g base p width frs ss n ps fill holes b =
     let u = y.topped in
     (a, c, omega arith, omega arith)
 
-filling_dues : (g : Graph) (base : Base) (p : Place) (width : ℕ) (frs : List Frame) (ss : List Step) (n : ℕ) (ps : List Port) (fill : Fill) (holes : List Hole) → FillingAt g base p width frs ss n ps fill holes → AllBelow (dues p frs) (length g.nodes)
+pub filling_dues : (g : Graph) (base : Base) (p : Place) (width : ℕ) (frs : List Frame) (ss : List Step) (n : ℕ) (ps : List Port) (fill : Fill) (holes : List Hole) → FillingAt g base p width frs ss n ps fill holes → AllBelow (dues p frs) (length g.nodes)
 filling_dues g base p width frs ss n ps fill holes b m i =
     let z = filling_stands g base p width frs ss n ps fill holes b in
     let z1 = z.1 in let z2 = z.2 in let z3 = z.3 in
     let r = dues_under g base p frs z1 b.below m i in omega arith
 
-filling_flows : (g h : Graph) (base : Base) (p : Place) (width : ℕ) (frs : List Frame) (ss : List Step) (n : ℕ) (ps : List Port) (fill : Fill) (holes : List Hole) → FillingAt g base p width frs ss n ps fill holes → Grows g h → Flows g p frs → Flows h p frs
+pub filling_flows : (g h : Graph) (base : Base) (p : Place) (width : ℕ) (frs : List Frame) (ss : List Step) (n : ℕ) (ps : List Port) (fill : Fill) (holes : List Hole) → FillingAt g base p width frs ss n ps fill holes → Grows g h → Flows g p frs → Flows h p frs
 filling_flows g h base p width frs ss n ps fill holes b w f =
     let z = filling_stands g base p width frs ss n ps fill holes b in
     let z0 = z.0 in let z1 = z.1 in let z2 = z.2 in let z3 = z.3 in

@@ -5,7 +5,8 @@ use Rattle.hg_ops.specs.Op.{Op, Module, FuncDefn, Const, Input, Output, Dfg, Cfg
 use Rattle.hg_graph.specs.Graph.{Graph, Port, Ports, Order, op_at, parent_at}
 use Rattle.hg_graph.specs.Valid.{IsValid, Rule, Keeps, Places, Children, Boundaries, Blocks, Cases, Links, Inputs, LinearOutputs, SameParent, NoCycle, Successors, StaticLinks, Callees, Names, VariantsAndTags, KeepsStatic, KeepsCallee, of_child, Path, edge, joined, Edge, along_value, along_order, is_output}
 use Rattle.hg_build.specs.Pending.{Pends}
-use Rattle.hg_build.specs.Drawn.{Drawn, StaticAt, Contained, DrawnIsValid}
+use Rattle.hg_build.specs.Drawn.{Drawn, StaticAt}
+use Rattle.hg_build.specs.Containing.{DrawnIsValid}
 use Rattle.hg_build.proofs.Linear.{none_pend}
 
 no_outputs : (o : Op) → is_output o ≡ true → output_ports o ≡ []
@@ -58,15 +59,15 @@ drawn_is_valid g d b c = record { graph = d.graph; keeps = kept }
     kept : (rule : Rule) (n : ℕ) → n < length g.nodes → Keeps g rule n
     kept Places n l = d.places n l
     kept Children n l = d.suits n l
-    kept Boundaries n l = c.bounds n l
-    kept Blocks n l = c.blocks n l
-    kept Cases n l = c.cases n l
+    kept Boundaries n l = λ e. c.contains.bounds n l e (λ x. x)
+    kept Blocks n l = c.contains.blocks n l (λ x. x)
+    kept Cases n l = c.contains.cases n l (λ x. x)
     kept Links n l = d.joins n l
     kept Inputs n l = d.fed n l (λ x. x)
     kept LinearOutputs n l = none_pend g b n l
     kept SameParent n l = d.inside n l
     kept NoCycle n l = no_cycle g d n
-    kept Successors n l = c.successors n l
+    kept Successors n l = c.contains.successors n l (λ x. x)
     kept StaticLinks n l = static_kept g d n (op_at g n) (d.statics n l (λ x. x))
     kept Callees n l = callee_kept g d n (op_at g n) (d.statics n l (λ x. x))
     kept Names n l = d.names n l

@@ -60,17 +60,6 @@ Typed g [] (t ∷ ts) = ⊥
 Typed g (p ∷ ps) [] = ⊥
 Typed g (p ∷ ps) (t ∷ ts) = (slice_get (outs_of (op_at g p.node)) p.index ≡ Some t) × Typed g ps ts
 
--- the rules on containers: Input and Output, the blocks of a CFG, the cases of a Conditional, and where blocks lead
-pub record Contained (g : Graph) : Type 0 where
-  pub bounds : (n : ℕ) → n < length g.nodes → is_dataflow_container (op_at g n) ≡ true → HasBoundary g n
-  pub blocks : (n : ℕ) → n < length g.nodes → KeepsBlocks g n (op_at g n)
-  pub cases : (n : ℕ) → n < length g.nodes → KeepsCases g n (op_at g n)
-  pub successors : (n : ℕ) → n < length g.nodes → KeepsSuccessors g n (op_at g n)
-
--- A graph in which nothing is due, no linear output is pending and each container is as it should be is valid.
-abbrev pub DrawnIsValid : Type 0
-DrawnIsValid = (g : Graph) → Drawn g [] [] → Pends g [] → Contained g → IsValid g
-
 -- The rules on containers while a graph is built: the containers in `empty` have no children yet, and the nodes in
 -- `unready` have not all their cases, or their blocks and control links.
 pub record Contains (g : Graph) (empty unready : List ℕ) : Type 0 where

@@ -9,6 +9,7 @@ ghost use Rattle.hg_build.specs.Wired.{ports_of, plain_held, IsNode, IsOpened, I
 ghost use Rattle.hg_ops.specs.Op.{Cfg, ins_of, outs_of};
 ghost use Rattle.hg_build.specs.Pending.{PendsAfter};
 ghost use Rattle.hg_build.specs.Kept.{OpenKept, OpKept, ConstantKept, CallKept, LoadKept, ChoiceKept, FlowKept, LeaveKept, FinishKept, EnterKept, BlockKept, ControlKept};
+ghost use Rattle.hg_build.specs.Containing.{OpenContains, OpContains, ConstantContains, CallContains, LoadContains, ChoiceContains, FlowContains, BlockContains, ControlContains, EnterContains, LeaveContains, FinishContains, FlowCharted, BlockCharted, ControlCharted};
 ghost use Rattle.hg_build.specs.Clauses.{OpenBuilt, OpBuilt, ConstantBuilt, CallBuilt, LoadBuilt, ChoiceBuilt, FlowBuilt, BlockBuilt, ControlBuilt, EnterBuilt, LeaveBuilt, FinishBuilt};
 ghost use Rattle.hg_graph.specs.Graph.{op_at};
 
@@ -208,6 +209,7 @@ impl Region {
         ensures built { IfOk result (λ r. OpenBuilt graph container.0 (length outs) r.0) }
         ensures pending { IfOk result (λ r. container.0 < length graph.nodes → PendsAfter graph r.0.graph [] r.1.items.items) }
         ensures kept { IfOk result (λ r. OpenKept graph container.0 r.0) }
+        ensures contained { IfOk result (λ r. OpenContains graph container.0 ins outs r.0) }
     {
         let opened = Region::add_ends(alloc, graph, container.0, ins, outs)?;
         Ok(opened)
@@ -219,6 +221,7 @@ impl Region {
         ensures built { OnOk result (OpBuilt self.old self.new (op_view op) (ports_of ins.items.items)) }
         ensures pending { IfOk result (λ ws. PendsAfter self.old.graph self.new.graph ins.items.items ws.items.items) }
         ensures kept { OnOk result (OpKept self.old self.new (op_view op) (ports_of ins.items.items)) }
+        ensures contained { OnOk result (OpContains self.old self.new (op_view op) (ports_of ins.items.items)) }
     {
         let Wires { items } = ins;
         let (_, outs) = self.node(op, items.as_slice(), None)?;
@@ -231,6 +234,7 @@ impl Region {
         ensures built { OnOk result (ConstantBuilt self.old self.new value) }
         ensures pending { IfOk result (λ w. self.old.place.container < length self.old.graph.nodes → PendsAfter self.old.graph self.new.graph [] (plain_held w ∷ [])) }
         ensures kept { OnOk result (ConstantKept self.old self.new) }
+        ensures contained { OnOk result (ConstantContains self.old self.new) }
     {
         let wire = self.add_constant(value)?;
         Ok(wire)
@@ -242,6 +246,7 @@ impl Region {
         ensures built { OnOk result (CallBuilt self.old self.new function.0 (ins_of (call_of (op_at self.old.graph function.0))) (ports_of ins.items.items)) }
         ensures pending { IfOk result (λ ws. function.0 < length self.old.graph.nodes → outs_of (op_at self.old.graph function.0) ≡ [] → PendsAfter self.old.graph self.new.graph ins.items.items ws.items.items) }
         ensures kept { OnOk result (CallKept self.old self.new function.0 (ports_of ins.items.items)) }
+        ensures contained { OnOk result (CallContains self.old self.new function.0 (ports_of ins.items.items)) }
     {
         let Wires { items } = ins;
         let outs = self.add_call(function.0, items.as_slice())?;
@@ -254,6 +259,7 @@ impl Region {
         ensures built { OnOk result (LoadBuilt self.old self.new function.0) }
         ensures pending { IfOk result (λ w. function.0 < length self.old.graph.nodes → outs_of (op_at self.old.graph function.0) ≡ [] → PendsAfter self.old.graph self.new.graph [] (plain_held w ∷ [])) }
         ensures kept { OnOk result (LoadKept self.old self.new function.0) }
+        ensures contained { OnOk result (LoadContains self.old self.new function.0) }
     {
         let (node, _) = self.add_load(function.0)?;
         Ok(Wire { node, index: 0 })
@@ -271,6 +277,7 @@ impl Region {
         ensures built { IfOk result (λ r. ChoiceBuilt self.old self.new rows ins (ports_of wires.items.items) r.0.0) }
         ensures pending { IfOk result (λ r. self.old.place.container < length self.old.graph.nodes → PendsAfter self.old.graph self.new.graph wires.items.items r.1.items.items) }
         ensures kept { OnOk result (ChoiceKept self.old self.new rows ins (ports_of wires.items.items)) }
+        ensures contained { OnOk result (ChoiceContains self.old self.new rows ins (ports_of wires.items.items)) }
     {
         let Wires { items } = wires;
         let (node, outs) = self.add_conditional(rows, ins, outs, items.as_slice())?;
@@ -298,6 +305,8 @@ impl Region {
         ensures built { IfOk result (λ r. FlowBuilt self.old self.new ins (ports_of wires.items.items) r.0.0) }
         ensures pending { IfOk result (λ r. PendsAfter self.old.graph self.new.graph wires.items.items r.1.items.items) }
         ensures kept { OnOk result (FlowKept self.old self.new ins (ports_of wires.items.items)) }
+        ensures contained { OnOk result (FlowContains self.old self.new ins (ports_of wires.items.items)) }
+        ensures charted { IfOk result (λ r. FlowCharted self.old self.new ins (ports_of wires.items.items) r.0.0) }
     {
         let Wires { items } = wires;
         let (node, outs) = self.node(OpKind::Cfg { ins, outs }, items.as_slice(), None)?;
@@ -310,6 +319,8 @@ impl Region {
         ensures built { IfOk result (λ n. BlockBuilt self.old self.new cfg.0 (op_view op) n.0) }
         ensures pending { OnOk result (outs_of (op_view op) ≡ [] → PendsAfter self.old.graph self.new.graph [] []) }
         ensures kept { OnOk result (BlockKept self.old self.new cfg.0 (op_view op)) }
+        ensures contained { OnOk result (BlockContains self.old self.new cfg.0 (op_view op)) }
+        ensures charted { IfOk result (λ n. BlockCharted self.old self.new cfg.0 n.0) }
     {
         let node = self.add_block(cfg.0, op)?;
         Ok(NodeId(node))
@@ -321,6 +332,8 @@ impl Region {
         ensures built { OnOk result (ControlBuilt self.old self.new (port_view from) to.0) }
         ensures pending { OnOk result (outs_of (op_at self.old.graph from.node.0) ≡ [] → PendsAfter self.old.graph self.new.graph [] []) }
         ensures kept { OnOk result (ControlKept self.old self.new (port_view from) to.0) }
+        ensures contained { OnOk result (ControlContains self.old self.new (port_view from)) }
+        ensures charted { OnOk result (ControlCharted self.old self.new (port_view from) to.0) }
     {
         self.add_control(from, to)?;
         Ok(())
@@ -332,6 +345,7 @@ impl Region {
         ensures built { IfOk result (λ r. EnterBuilt self container.0 r.0 r.1) }
         ensures pending { IfOk result (λ r. container.0 < length self.graph.nodes → PendsAfter self.graph r.1.graph [] r.2.items.items) }
         ensures kept { IfOk result (λ r. EnterKept self container.0 r.0 r.1) }
+        ensures contained { IfOk result (λ r. EnterContains self container.0 r.0 r.1) }
     {
         let entered = self.open_inner(container.0)?;
         Ok(entered)
@@ -343,6 +357,7 @@ impl Region {
         ensures built { IfOk result (λ r. LeaveBuilt self outer (ports_of outs.items.items) r) }
         ensures pending { IfOk result (λ r. PendsAfter self.graph r.graph outs.items.items []) }
         ensures kept { IfOk result (λ r. LeaveKept self outer (ports_of outs.items.items) r) }
+        ensures contained { IfOk result (λ r. LeaveContains self (ports_of outs.items.items) r) }
     {
         let Wires { items } = outs;
         let region = self.close_inner(outer, items.as_slice())?;
@@ -355,6 +370,7 @@ impl Region {
         ensures built { IfOk result (λ g. FinishBuilt self (ports_of outs.items.items) g) }
         ensures pending { IfOk result (λ g. PendsAfter self.graph g outs.items.items []) }
         ensures kept { IfOk result (λ g. FinishKept self (ports_of outs.items.items) g) }
+        ensures contained { IfOk result (λ g. FinishContains self (ports_of outs.items.items) g) }
     {
         let Wires { items } = outs;
         let graph = self.close(items.as_slice())?;

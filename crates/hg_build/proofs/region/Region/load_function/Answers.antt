@@ -1,5 +1,6 @@
 use Rattle.hg_build.proofs.Calls.{load_clause}
 use Rattle.hg_build.proofs.Linear.{load_exact, load_pending}
+use Rattle.hg_build.proofs.Containing.{load_contains}
 use Rattle.hg_build.proofs.Keeps.{load_keeps}
 use Rattle.hg_build.proofs.region.Region.load_function.Goals as goal
 
@@ -14,3 +15,6 @@ returns-clause-pending c = load_pending _ _ _ _ _ _ c.in_ok-node.ensures
 
 pub returns-clause-kept : goal.returns-clause-kept
 returns-clause-kept c = load_keeps _ _ _ _ _ c.in_ok-node.ensures
+
+pub returns-clause-contained : goal.returns-clause-contained
+returns-clause-contained c = load_contains _ _ _ _ _ c.in_ok-node.ensures

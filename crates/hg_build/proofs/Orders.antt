@@ -9,7 +9,7 @@ use Rattle.hg_laws.proofs.Children.{child_is, kid_is, is_child}
 use Rattle.hg_build.specs.Steps.{Grows}
 use Rattle.hg_build.specs.Wired.{with_node, with_links, order_links, adds_order, is_last, leave_prior, leave_last}
 use Rattle.hg_build.specs.Drawn.{Drawn}
-use Rattle.hg_build.specs.Marks.{Latest, Owns, Marks, MarkedIsOrdered, Latests, lates}
+use Rattle.hg_build.specs.Marks.{Latest, Owns, Marks, MarkedAt, MarkedIsOrdered, Latests, lates}
 use Rattle.hg_build.specs.Built.{Frame}
 use Rattle.hg_build.specs.declared.region.Place.{Place}
 use Rattle.hg_build.specs.declared.region.Outer.{Outer}
@@ -34,18 +34,18 @@ effect_marked g marked s w k n l (inside {m = m} i e) =
     (effect_marked g marked s w k m c.0 e)
 
 pub marked_is_ordered : MarkedIsOrdered
-marked_is_ordered g marked d w k c a b fl ia ib ea eb ne =
+marked_is_ordered g marked d so c a b fl ia ib ea eb ne =
     let ca = child_is g c a (kid_is g c a ia).0 in
     let cb = child_is g c b (kid_is g c b ib).0 in
     let ma = is_marked a ca.0 ca.1 ca.2 ea in
     let mb = is_marked b cb.0 cb.1 cb.2 eb in
-    k.joined a b ma mb ne (ca.1 ∙ sym cb.1) (ap (λ x. is_dataflow_container (op_at g x)) ca.1 ∙ fl)
+    so.marks.joined a b ma mb ne (ca.1 ∙ sym cb.1) (ap (λ x. is_dataflow_container (op_at g x)) ca.1 ∙ fl)
   where
     root : parent_at g 0 ≡ 0
     root = ((d.places 0 d.graph.some).root refl).1
 
     is_marked : (x : ℕ) → x < length g.nodes → parent_at g x ≡ c → x ≢ c → HasEffect g x → In x marked
-    is_marked x l p nc e = ⊎_elim (λ j. j) (λ z. absurd (nc (z ∙ sym (sym p ∙ (ap (parent_at g) z ∙ root))))) (effect_marked g marked root w k x l e)
+    is_marked x l p nc e = ⊎_elim (λ j. j) (λ z. absurd (nc (z ∙ sym (sym p ∙ (ap (parent_at g) z ∙ root))))) (effect_marked g marked root so.owns so.marks x l e)
 
 -- ---- growth
 
@@ -125,11 +125,6 @@ Others c (fr ∷ frs) = (c ≢ fr.outer.place.container) × Others c frs
 frames_more : (h : Graph) (marked : List ℕ) (n c : ℕ) (p : Place) (frs : List Frame) → parent_at h n ≡ c → (c ≢ p.container) → Others c frs → Latests h marked p frs → Latests h (n ∷ marked) p frs
 frames_more h marked n c p [] e ne o l = latest_more h marked n p.container p.last (λ q. ne (sym e ∙ q)) l
 frames_more h marked n c p (fr ∷ frs) e ne o l = (latest_more h marked n p.container p.last (λ q. ne (sym e ∙ q)) l.0, frames_more h marked n c fr.outer.place frs e o.0 o.1 l.1)
-
-pub record MarkedAt (g : Graph) (p : Place) (frs : List Frame) (marked : List ℕ) : Type 0 where
-  pub owns : Owns g marked
-  pub marks : Marks g (lates p frs) marked
-  pub latest : Latests g marked p frs
 
 lates_last : (p : Place) (last : Option ℕ) (frs : List Frame) → lates (record p { last = last }) frs ≡ lates p frs
 lates_last p last [] = refl

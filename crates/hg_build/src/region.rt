@@ -9,6 +9,7 @@ ghost use Rattle.hg_build.specs.Wired.{ports_of, plain_held, IsNode, IsOpened, I
 ghost use Rattle.hg_ops.specs.Op.{Cfg, ins_of, outs_of};
 ghost use Rattle.hg_build.specs.Pending.{PendsAfter};
 ghost use Rattle.hg_build.specs.Kept.{OpenKept, OpKept, ConstantKept, CallKept, LoadKept, ChoiceKept, FlowKept, LeaveKept, FinishKept, EnterKept, BlockKept, ControlKept};
+ghost use Rattle.hg_build.specs.Ordering.{OpenOrdered, NodeOrdered, QuietOrdered, BlockOrdered, ControlOrdered, EnterOrdered, LeaveOrdered, FinishOrdered};
 ghost use Rattle.hg_build.specs.Containing.{OpenContains, OpContains, ConstantContains, CallContains, LoadContains, ChoiceContains, FlowContains, BlockContains, ControlContains, EnterContains, LeaveContains, FinishContains, FlowCharted, BlockCharted, ControlCharted};
 ghost use Rattle.hg_build.specs.Clauses.{OpenBuilt, OpBuilt, ConstantBuilt, CallBuilt, LoadBuilt, ChoiceBuilt, FlowBuilt, BlockBuilt, ControlBuilt, EnterBuilt, LeaveBuilt, FinishBuilt};
 ghost use Rattle.hg_graph.specs.Graph.{op_at};
@@ -210,6 +211,7 @@ impl Region {
         ensures pending { IfOk result (λ r. container.0 < length graph.nodes → PendsAfter graph r.0.graph [] r.1.items.items) }
         ensures kept { IfOk result (λ r. OpenKept graph container.0 r.0) }
         ensures contained { IfOk result (λ r. OpenContains graph container.0 ins outs r.0) }
+        ensures ordered { IfOk result (λ r. OpenOrdered graph container.0 r.0) }
     {
         let opened = Region::add_ends(alloc, graph, container.0, ins, outs)?;
         Ok(opened)
@@ -222,6 +224,7 @@ impl Region {
         ensures pending { IfOk result (λ ws. PendsAfter self.old.graph self.new.graph ins.items.items ws.items.items) }
         ensures kept { OnOk result (OpKept self.old self.new (op_view op) (ports_of ins.items.items)) }
         ensures contained { OnOk result (OpContains self.old self.new (op_view op) (ports_of ins.items.items)) }
+        ensures ordered { OnOk result (NodeOrdered self.old self.new (op_view op)) }
     {
         let Wires { items } = ins;
         let (_, outs) = self.node(op, items.as_slice(), None)?;
@@ -235,6 +238,7 @@ impl Region {
         ensures pending { IfOk result (λ w. self.old.place.container < length self.old.graph.nodes → PendsAfter self.old.graph self.new.graph [] (plain_held w ∷ [])) }
         ensures kept { OnOk result (ConstantKept self.old self.new) }
         ensures contained { OnOk result (ConstantContains self.old self.new) }
+        ensures ordered { OnOk result (QuietOrdered self.old self.new) }
     {
         let wire = self.add_constant(value)?;
         Ok(wire)
@@ -247,6 +251,7 @@ impl Region {
         ensures pending { IfOk result (λ ws. function.0 < length self.old.graph.nodes → outs_of (op_at self.old.graph function.0) ≡ [] → PendsAfter self.old.graph self.new.graph ins.items.items ws.items.items) }
         ensures kept { OnOk result (CallKept self.old self.new function.0 (ports_of ins.items.items)) }
         ensures contained { OnOk result (CallContains self.old self.new function.0 (ports_of ins.items.items)) }
+        ensures ordered { OnOk result (NodeOrdered self.old self.new (call_of (op_at self.old.graph function.0))) }
     {
         let Wires { items } = ins;
         let outs = self.add_call(function.0, items.as_slice())?;
@@ -260,6 +265,7 @@ impl Region {
         ensures pending { IfOk result (λ w. function.0 < length self.old.graph.nodes → outs_of (op_at self.old.graph function.0) ≡ [] → PendsAfter self.old.graph self.new.graph [] (plain_held w ∷ [])) }
         ensures kept { OnOk result (LoadKept self.old self.new function.0) }
         ensures contained { OnOk result (LoadContains self.old self.new function.0) }
+        ensures ordered { OnOk result (NodeOrdered self.old self.new (load_of (op_at self.old.graph function.0))) }
     {
         let (node, _) = self.add_load(function.0)?;
         Ok(Wire { node, index: 0 })
@@ -278,6 +284,7 @@ impl Region {
         ensures pending { IfOk result (λ r. self.old.place.container < length self.old.graph.nodes → PendsAfter self.old.graph self.new.graph wires.items.items r.1.items.items) }
         ensures kept { OnOk result (ChoiceKept self.old self.new rows ins (ports_of wires.items.items)) }
         ensures contained { OnOk result (ChoiceContains self.old self.new rows ins (ports_of wires.items.items)) }
+        ensures ordered { OnOk result (QuietOrdered self.old self.new) }
     {
         let Wires { items } = wires;
         let (node, outs) = self.add_conditional(rows, ins, outs, items.as_slice())?;
@@ -306,6 +313,7 @@ impl Region {
         ensures pending { IfOk result (λ r. PendsAfter self.old.graph self.new.graph wires.items.items r.1.items.items) }
         ensures kept { OnOk result (FlowKept self.old self.new ins (ports_of wires.items.items)) }
         ensures contained { OnOk result (FlowContains self.old self.new ins (ports_of wires.items.items)) }
+        ensures ordered { OnOk result (NodeOrdered self.old self.new (Cfg ins outs)) }
         ensures charted { IfOk result (λ r. FlowCharted self.old self.new ins (ports_of wires.items.items) r.0.0) }
     {
         let Wires { items } = wires;
@@ -320,6 +328,7 @@ impl Region {
         ensures pending { OnOk result (outs_of (op_view op) ≡ [] → PendsAfter self.old.graph self.new.graph [] []) }
         ensures kept { OnOk result (BlockKept self.old self.new cfg.0 (op_view op)) }
         ensures contained { OnOk result (BlockContains self.old self.new cfg.0 (op_view op)) }
+        ensures ordered { OnOk result (BlockOrdered self.old self.new cfg.0 (op_view op)) }
         ensures charted { IfOk result (λ n. BlockCharted self.old self.new cfg.0 n.0) }
     {
         let node = self.add_block(cfg.0, op)?;
@@ -333,6 +342,7 @@ impl Region {
         ensures pending { OnOk result (outs_of (op_at self.old.graph from.node.0) ≡ [] → PendsAfter self.old.graph self.new.graph [] []) }
         ensures kept { OnOk result (ControlKept self.old self.new (port_view from) to.0) }
         ensures contained { OnOk result (ControlContains self.old self.new (port_view from)) }
+        ensures ordered { OnOk result (ControlOrdered self.old self.new) }
         ensures charted { OnOk result (ControlCharted self.old self.new (port_view from) to.0) }
     {
         self.add_control(from, to)?;
@@ -346,6 +356,7 @@ impl Region {
         ensures pending { IfOk result (λ r. container.0 < length self.graph.nodes → PendsAfter self.graph r.1.graph [] r.2.items.items) }
         ensures kept { IfOk result (λ r. EnterKept self container.0 r.0 r.1) }
         ensures contained { IfOk result (λ r. EnterContains self container.0 r.0 r.1) }
+        ensures ordered { IfOk result (λ r. EnterOrdered self container.0 r.0 r.1) }
     {
         let entered = self.open_inner(container.0)?;
         Ok(entered)
@@ -358,6 +369,7 @@ impl Region {
         ensures pending { IfOk result (λ r. PendsAfter self.graph r.graph outs.items.items []) }
         ensures kept { IfOk result (λ r. LeaveKept self outer (ports_of outs.items.items) r) }
         ensures contained { IfOk result (λ r. LeaveContains self (ports_of outs.items.items) r) }
+        ensures ordered { IfOk result (λ r. LeaveOrdered self outer r) }
     {
         let Wires { items } = outs;
         let region = self.close_inner(outer, items.as_slice())?;
@@ -371,6 +383,7 @@ impl Region {
         ensures pending { IfOk result (λ g. PendsAfter self.graph g outs.items.items []) }
         ensures kept { IfOk result (λ g. FinishKept self (ports_of outs.items.items) g) }
         ensures contained { IfOk result (λ g. FinishContains self (ports_of outs.items.items) g) }
+        ensures ordered { IfOk result (λ g. FinishOrdered self g) }
     {
         let Wires { items } = outs;
         let graph = self.close(items.as_slice())?;

@@ -1,6 +1,7 @@
 use Rattle.hg_build.proofs.Calls.{load_clause}
 use Rattle.hg_build.proofs.Linear.{load_exact, load_pending}
 use Rattle.hg_build.proofs.Containing.{load_contains}
+use Rattle.hg_build.proofs.Ordering.{node_ordered}
 use Rattle.hg_build.proofs.Keeps.{load_keeps}
 use Rattle.hg_build.proofs.region.Region.load_function.Goals as goal
 
@@ -18,3 +19,6 @@ returns-clause-kept c = load_keeps _ _ _ _ _ c.in_ok-node.ensures
 
 pub returns-clause-contained : goal.returns-clause-contained
 returns-clause-contained c = load_contains _ _ _ _ _ c.in_ok-node.ensures
+
+pub returns-clause-ordered : goal.returns-clause-ordered
+returns-clause-ordered c = node_ordered _ _ _ _ _ _ _ c.in_ok-node.ensures

@@ -555,7 +555,7 @@ finish_built g base p width ss ps b wi pi =
 
 -- ---- blocks of a CFG
 
-holes_push : (holes : List Hole) (n top c end : ℕ) (act : Option (Calls → Act)) → HolesRise n top holes → top ≤ c → c < end → HolesRise n end (holes ++ record { node = c; act = act } ∷ [])
+pub holes_push : (holes : List Hole) (n top c end : ℕ) (act : Option (Calls → Act)) → HolesRise n top holes → top ≤ c → c < end → HolesRise n end (holes ++ record { node = c; act = act } ∷ [])
 holes_push [] n top c end act r le lt = (omega arith, lt)
 holes_push (hole ∷ holes) n top c end act r le lt = (r.0, holes_push holes hole.node top c end act r.1 le lt)
 
@@ -564,7 +564,7 @@ unfilled_do g n top start end new [] u d = tt
 unfilled_do g n top start end new (hole ∷ holes) u d =
     (λ ne. subst (HoleDoes g new end hole.node) (sym u.0) (subst (HoleDoes g top start hole.node) u.0 (d.0 ne)), unfilled_do g n top start end new holes u.1 d.1)
 
-do_push : (g : Graph) (n top end c : ℕ) (holes : List Hole) → HolesDo g n top end holes → children g c ≡ [] → HolesDo g n top end (holes ++ record { node = c; act = None } ∷ [])
+pub do_push : (g : Graph) (n top end c : ℕ) (holes : List Hole) → HolesDo g n top end holes → children g c ≡ [] → HolesDo g n top end (holes ++ record { node = c; act = None } ∷ [])
 do_push g n top end c [] d e = (λ _. e, tt)
 do_push g n top end c (hole ∷ holes) d e = (d.0, do_push g n top end c holes d.1 e)
 

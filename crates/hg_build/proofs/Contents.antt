@@ -108,7 +108,7 @@ region_free g n _ e = absurd (wrong e)
     wrong : false ≡ true → ⊥
     wrong e = cc
 
-no_block : (g : Graph) (n : ℕ) (kind : Op) → is_block kind ≡ false → KeepsSuccessors g n kind
+pub no_block : (g : Graph) (n : ℕ) (kind : Op) → is_block kind ≡ false → KeepsSuccessors g n kind
 no_block g n (DataflowBlock ins rows others) e = absurd cc
 no_block g n _ e = tt
 
@@ -236,7 +236,7 @@ plain_kept g n (Conditional rows ins outs) e = absurd cc
 plain_kept g n (Cfg ins outs) e = absurd cc
 plain_kept g n _ e = (tt, tt)
 
-no_child : (g : Graph) (kind : Op) (p : ℕ) → IsGraph g → p < length g.nodes → (m : ℕ) → m < length (with_node g kind p).nodes → parent_at (with_node g kind p) m ≡ length g.nodes → ⊥
+pub no_child : (g : Graph) (kind : Op) (p : ℕ) → IsGraph g → p < length g.nodes → (m : ℕ) → m < length (with_node g kind p).nodes → parent_at (with_node g kind p) m ≡ length g.nodes → ⊥
 no_child g kind p s lt m l q =
     let more = count_node g kind p in
     ⊎_elim (λ o. let x = parent_old g kind p m o in let y = s.parents m o in omega arith) (λ r. ⊎_elim (λ e. let x = ap (parent_at (with_node g kind p)) e ∙ parent_new g kind p in omega arith) (λ u. omega arith) r) (split m (length g.nodes))

@@ -209,19 +209,26 @@ into_none (Ports a b ∷ ls) count p le h =
     skip (is_port b p) (links_into ls p) 0 (other_port b p ne) (into_none ls count p le (λ l i. h l (inr i)))
 
 -- what a new node has to be
+-- no node has a name that the op has
+abbrev pub Fresh : Graph → Op → Type 0
+Fresh g kind = (name : List ℕ) → name_of kind ≡ Some name → (m : ℕ) → m < length g.nodes → name_of (op_at g m) ≡ Some name → ⊥
+
+pub nameless : (g : Graph) (kind : Op) → name_of kind ≡ None → Fresh g kind
+nameless g kind e name q = absurd (no_name name (sym q ∙ e))
+  where
+    no_name : (xs : List ℕ) → Some xs ≡ None → ⊥
+    no_name xs q = cc
+
 pub record NodeFits (g : Graph) (kind : Op) (c : ℕ) : Type 0 where
   pub parent : c < length g.nodes
   pub no_module : is_module kind ≡ false
   pub suits : may_stand_in (op_at g c) kind ≡ true
-  pub nameless : name_of kind ≡ None
+  pub fresh : Fresh g kind
   pub tags : KeepsTags kind
 
-nameless_keeps : (g : Graph) (n : ℕ) (kind : Op) → name_of kind ≡ None → KeepsName g n kind
-nameless_keeps g n (FuncDefn name ins outs) e = absurd (no_name name e)
-  where
-    no_name : (xs : List ℕ) → Some xs ≡ None → ⊥
-    no_name xs q = cc
-nameless_keeps g n _ e = tt
+fresh_keeps : (g h : Graph) (kind o : Op) → ((m : ℕ) → m < length g.nodes → op_at h m ≡ op_at g m) → Fresh g kind → o ≡ kind → KeepsName h (length g.nodes) o
+fresh_keeps g h kind (FuncDefn name ins outs) w f e = λ m l q. f name (sym (ap name_of e)) m l (ap name_of (sym (w m l)) ∙ q)
+fresh_keeps g h kind _ w f e = tt
 
 pub drawn_node : (g : Graph) (kind : Op) (c : ℕ) (due owed : List ℕ) → NodeFits g kind c → Drawn g due owed → Drawn (with_node g kind c) (length g.nodes ∷ due) (length g.nodes ∷ owed)
 drawn_node g kind c due owed f d = record {
@@ -235,7 +242,7 @@ drawn_node g kind c due owed f d = record {
   rises = λ a b e. edge a b e;
   statics = λ n l o. old_side n l (λ e. o (inl e)) (λ m. subst (StaticAt h n) (sym (op_old g kind c n m)) (static_grows g h n (op_at g n) (node_grows g kind c) d.graph m refl (λ from q. feeder_within g.links (length g.nodes) (static_input g n) from d.graph.links q) (d.statics n m (λ i. o (inr i)))));
   unowed = λ n l i. by_side n l (λ m. unowed_old n m i) (λ e. into_none g.links (length g.nodes) (static_input h n) (omega arith) d.graph.links);
-  names = λ n l. by_side n l (λ m. subst (KeepsName h n) (sym (op_old g kind c n m)) (name_grows g h n (op_at g n) (node_grows g kind c) m (d.names n m))) (λ e. nameless_keeps h n (op_at h n) (ap name_of (new_op n e) ∙ f.nameless));
+  names = λ n l. by_side n l (λ m. subst (KeepsName h n) (sym (op_old g kind c n m)) (name_grows g h n (op_at g n) (node_grows g kind c) m (d.names n m))) (λ e. subst (λ k. KeepsName h k (op_at h n)) (sym e) (fresh_keeps g h kind (op_at h n) (λ m l2. op_old g kind c m l2) f.fresh (new_op n e)));
   tags = λ n l. by_side n l (λ m. subst KeepsTags (sym (op_old g kind c n m)) (d.tags n m)) (λ e. subst KeepsTags (sym (new_op n e)) f.tags);
 }
   where

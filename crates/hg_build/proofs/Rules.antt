@@ -20,7 +20,7 @@ use Rattle.hg_build.proofs.Frames.{stands, Stands, rise_top, rise_get, in_end}
 use Rattle.hg_build.proofs.Containers.{with_cases_more, prior_rises}
 use Rattle.hg_build.proofs.Adds.{OrderFits}
 use Rattle.hg_build.proofs.Joins.{with_none}
-use Rattle.hg_build.proofs.Draws.{NodeFits, AllBelow, InRegion, PriorFits, after_drawn, call_drawn, load_drawn, silent_drawn, output_drawn, drawn_values, drawn_prior, drawn_constant, drawn_other, drawn_start, is_static, free_static, Beside}
+use Rattle.hg_build.proofs.Draws.{NodeFits, nameless, AllBelow, InRegion, PriorFits, after_drawn, call_drawn, load_drawn, silent_drawn, output_drawn, drawn_values, drawn_prior, drawn_constant, drawn_other, drawn_start, is_static, free_static, Beside}
 
 -- ---- what stands in a region
 stands_in : (o kind : Op) → is_dataflow_container o ≡ true → may_stand_in o kind ≡ stands_in_region kind
@@ -147,7 +147,7 @@ leaf_kind _ e = absurd (wrong e)
     wrong e = cc
 
 region_fits : (g : Graph) (kind : Op) (c : ℕ) → c < length g.nodes → is_dataflow_container (op_at g c) ≡ true → is_module kind ≡ false → stands_in_region kind ≡ true → name_of kind ≡ None → KeepsTags kind → NodeFits g kind c
-region_fits g kind c lt fl m s n t = record { parent = lt; no_module = m; suits = stands_in (op_at g c) kind fl ∙ s; nameless = n; tags = t }
+region_fits g kind c lt fl m s n t = record { parent = lt; no_module = m; suits = stands_in (op_at g c) kind fl ∙ s; fresh = nameless g kind n; tags = t }
 
 -- any node without a static input that stands in a region
 region_drawn : (g : Graph) (base : Base) (p : Place) (width : ℕ) (frs : List Frame) (ss : List Step) (kind : Op) (ps : List Port) (prior : Option ℕ) → BuiltAt g base p width frs ss → DrawnAt g p frs → is_module kind ≡ false → stands_in_region kind ≡ true → name_of kind ≡ None → is_static kind ≡ false → is_operation kind ≡ true → is_input kind ≡ false → KeepsTags kind → Typed g ps (ins_of kind) → PortsIn ps (known_after (p.input ∷ []) ss) → PriorFits g p.container prior → Drawn (after_node g kind p.container ps None prior) (dues p frs) []
@@ -231,7 +231,7 @@ cases_drawn n all (row ∷ rows) cin cout ins outs g due owed lt at b d =
     let kind = Case (row ++ ins) outs in
     let g1 = with_node g kind n in
     let more : length g1.nodes ≡ suc (length g.nodes) = count_node g kind n in
-    let fits : NodeFits g kind n = record { parent = lt; no_module = refl; suits = ap (λ o. may_stand_in o kind) at; nameless = refl; tags = tt } in
+    let fits : NodeFits g kind n = record { parent = lt; no_module = refl; suits = ap (λ o. may_stand_in o kind) at; fresh = nameless g kind refl; tags = tt } in
     subst (λ h. Drawn h due owed) (sym (with_cases_more g n row rows ins outs)) (cases_drawn n all rows cin cout ins outs g1 due owed (omega arith) (op_old g kind n n lt ∙ at) (λ m i. let x = b m i in omega arith) (silent_drawn g kind n due owed d fits b refl refl))
 
 pub cases_grow : (n : ℕ) (rows : List Types) (ins outs : Types) (g : Graph) → Grows g (with_cases g n rows ins outs)
@@ -360,10 +360,10 @@ leave_kept g base p width fr frs ss ps b d y out i =
 
 -- ---- `block` and `control`
 pub block_kept : (g : Graph) (n : ℕ) (ins : Types) (rows : List Types) (others cin cout : Types) (due : List ℕ) → Drawn g due [] → n < length g.nodes → op_at g n ≡ Cfg cin cout → AllBelow due (length g.nodes) → 0 < length rows → Drawn (with_node g (DataflowBlock ins rows others) n) due []
-block_kept g n ins rows others cin cout due d lt at b some = silent_drawn g (DataflowBlock ins rows others) n due [] d (record { parent = lt; no_module = refl; suits = ap (λ o. may_stand_in o (DataflowBlock ins rows others)) at; nameless = refl; tags = some }) b refl refl
+block_kept g n ins rows others cin cout due d lt at b some = silent_drawn g (DataflowBlock ins rows others) n due [] d (record { parent = lt; no_module = refl; suits = ap (λ o. may_stand_in o (DataflowBlock ins rows others)) at; fresh = nameless g (DataflowBlock ins rows others) refl; tags = some }) b refl refl
 
 pub exit_kept : (g : Graph) (n : ℕ) (types cin cout : Types) (due : List ℕ) → Drawn g due [] → n < length g.nodes → op_at g n ≡ Cfg cin cout → AllBelow due (length g.nodes) → Drawn (with_node g (ExitBlock types) n) due []
-exit_kept g n types cin cout due d lt at b = silent_drawn g (ExitBlock types) n due [] d (record { parent = lt; no_module = refl; suits = ap (λ o. may_stand_in o (ExitBlock types)) at; nameless = refl; tags = tt }) b refl refl
+exit_kept g n types cin cout due d lt at b = silent_drawn g (ExitBlock types) n due [] d (record { parent = lt; no_module = refl; suits = ap (λ o. may_stand_in o (ExitBlock types)) at; fresh = nameless g (ExitBlock types) refl; tags = tt }) b refl refl
 
 control_get : (rows : List Types) (k : ℕ) → k < length rows → slice_get (map (λ row. ControlPort) rows) k ≡ Some ControlPort
 control_get [] k lt = absurd (omega arith)

@@ -70,7 +70,7 @@ after_links g kind c ps source prior =
     let v = value_links n 0 ps in let s = static_links source n (length ps) in let o = order_links prior n in
     append_assoc (g.links ++ v) s o ∙ append_assoc g.links v (s ++ o)
 
-after_at : (g : Graph) (kind : Op) (c : ℕ) (ps : List Port) (source prior : Option ℕ) → (op_at (after_node g kind c ps source prior) (length g.nodes) ≡ kind) × (parent_at (after_node g kind c ps source prior) (length g.nodes) ≡ c)
+pub after_at : (g : Graph) (kind : Op) (c : ℕ) (ps : List Port) (source prior : Option ℕ) → (op_at (after_node g kind c ps source prior) (length g.nodes) ≡ kind) × (parent_at (after_node g kind c ps source prior) (length g.nodes) ≡ c)
 after_at g kind c ps source prior =
     let n = length g.nodes in
     let g1 = with_node g kind c in

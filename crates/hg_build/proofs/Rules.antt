@@ -76,7 +76,7 @@ known_in : (known : List ℕ) (ss : List Step) (n : ℕ) → In n (known_after k
 known_in known [] n i = inl i
 known_in known (s ∷ ss) n i = ⊎_elim (λ j. ⊎_elim (λ e. inr (inl e)) (λ k. inl k) j) (λ j. inr (inr j)) (known_in (s.node ∷ known) ss n i)
 
-known_child : (g : Graph) (p : Place) (width : ℕ) (ss : List Step) (n : ℕ) → OpenAt g p width ss → In n (known_after (p.input ∷ []) ss) → (n < length g.nodes) × (parent_at g n ≡ p.container)
+pub known_child : (g : Graph) (p : Place) (width : ℕ) (ss : List Step) (n : ℕ) → OpenAt g p width ss → In n (known_after (p.input ∷ []) ss) → (n < length g.nodes) × (parent_at g n ≡ p.container)
 known_child g p width ss n y i = ⊎_elim (λ j. ⊎_elim (λ e. subst (λ m. (m < length g.nodes) × (parent_at g m ≡ p.container)) (sym e) (let c = child_is g p.container p.input (get_in (children g p.container) 0 p.input y.laid.input) in (c.0, c.1))) (λ k. absurd k) j) (λ j. let c = child_is g p.container n (kid_is g p.container n (subst (λ xs. In n xs) (sym y.laid.firing) j)).0 in (c.0, c.1)) (known_in (p.input ∷ []) ss n i)
 
 pub scope_region : (g : Graph) (p : Place) (width : ℕ) (ss : List Step) (ps : List Port) → OpenAt g p width ss → PortsIn ps (known_after (p.input ∷ []) ss) → InRegion g p.container ps

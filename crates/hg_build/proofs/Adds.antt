@@ -1,17 +1,14 @@
 -- What one more node makes of what was built.
-use Rattle.std.proofs.Common.{◌≡◌, ◌≢◌, ◌⊎◌, inl, inr, ⊎_elim, ℕ, ℤ, zero, suc, ◌+◌, ◌≤◌, ◌<◌, Bool, true, false, cond, not, ◌&&◌, eqb, List, [], ◌∷◌, ◌++◌, length, map, filter, Option, Some, None, slice_get, refl, sym, ap, ◌∙◌, subst, arith, eq-eqb, eqb-true, ne_eqb, le_refl, append_assoc, append-nil, length-append}
+use Rattle.std.proofs.Common.{◌≡◌, ◌≢◌, ◌⊎◌, inl, inr, ⊎_elim, ℕ, suc, ◌≤◌, ◌<◌, true, cond, List, [], ◌∷◌, ◌++◌, length, Option, Some, None, refl, sym, ap, ◌∙◌, subst, arith, le_refl}
 use Rattle.gp_base.specs.Membership.{In}
-use Rattle.hg_ops.specs.Op.{Op, Types, Tag, Ext, Const, LoadConstant, FuncDefn, Call, ins_of, fires, is_effect}
-use Rattle.hg_graph.specs.Graph.{Graph, Node, Port, Link, Ports, Order, IsGraph, LinkIsWithin, op_at, parent_at, children, firing_children, feeder, taker, static_input}
-use Rattle.hg_laws.proofs.Children.{child_is, kid_is}
-use Rattle.hg_build.specs.Steps.{Act, Calls, Step, nodes_of, Grows, SamePart, FiresAs, OrderRises, OrdersRise, FedBy, PortsIn, StepAt, StepsAt, Laid, known_after, Hole, Way, HolesDo, HoleDoes, RegionAs, CasesAt, IsCaseAt, BlocksAt, IsBlockAt, EndsAt, IsWayAt, WaysAt, IsExitAt, is_plain, plain_act, constant_act, call_act}
-use Rattle.hg_build.specs.Wired.{with_node, with_links, value_links, order_links, static_links, after_node, effect_prior, last_after, after_constant, call_of}
-use Rattle.hg_build.specs.Built.{Sound, LastIn, OpenAt, Fill, Choice, Flow, IsChoiceAt, IsFlowAt, EntryAt, FillAt, HolesRise, Frame, Halfway, Below, BuiltAt}
-use Rattle.hg_build.specs.declared.region.Place.{Place}
-use Rattle.hg_build.proofs.Real.{in_split, in_last, in_middle}
-use Rattle.hg_build.proofs.Moves.{same_part, steps_rise, steps_in, steps_push, steps_longer, fed_in, region_in}
-use Rattle.hg_build.proofs.Fires.{plain_node, constant_node, call_node}
-use Rattle.hg_build.proofs.Grow.{Grown, Off, grown_trans, node_grown, links_grown, part_grown, count_node, op_old, op_new, parent_old, parent_new, firing_parent, graph_node, graph_links, no_feeder, fed_new, unfed_values, unfed_static, unfed_order, static_new, op_links, parent_links, firing_links, children_links, children_other, no_children}
+use Rattle.hg_ops.specs.Op.{Op, fires}
+use Rattle.hg_graph.specs.Graph.{Graph, Port, Link, Order, LinkIsWithin, op_at, parent_at, children, firing_children, feeder}
+use Rattle.hg_build.specs.Steps.{Grows, OrderRises, FedBy}
+use Rattle.hg_build.specs.Wired.{with_node, with_links, value_links, order_links, static_links, after_node}
+use Rattle.hg_build.specs.Built.{Sound}
+use Rattle.hg_build.proofs.Real.{in_split}
+use Rattle.hg_build.proofs.Moves.{fed_in}
+use Rattle.hg_build.proofs.Grow.{Grown, grown_trans, node_grown, links_grown, count_node, op_new, parent_new, firing_parent, graph_node, graph_links, no_feeder, fed_new, unfed_values, unfed_static, unfed_order, static_new, op_links, parent_links, firing_links, children_links, children_other, no_children}
 
 -- ---- orders
 no_order_values : (n q : ℕ) (ps : List Port) (a b : ℕ) → In (Order a b) (value_links n q ps) → ⊥

@@ -1,11 +1,11 @@
 -- The clauses of the builder's calls, from what they add.
-use Rattle.std.proofs.Common.{◌≡◌, ℕ, zero, suc, ◌<◌, Bool, true, List, [], ◌∷◌, ◌++◌, length, Option, Some, None, ℤ, slice_get, slice_set, refl, sym, ap, ◌∙◌, subst}
+use Rattle.std.proofs.Common.{◌≡◌, ℕ, suc, List, [], ◌∷◌, ◌++◌, length, Some, None, ℤ, slice_set, refl, sym, ap, ◌∙◌, subst}
 use Rattle.hg_ops.specs.Op.{Op, Types, FuncDefn, Call, CallIndirect, LoadFunction, Cfg, ins_of, outs_of}
-use Rattle.hg_graph.specs.Graph.{Graph, Port, op_at, parent_at, children}
-use Rattle.hg_build.specs.Steps.{Step, body, Hole, Way}
-use Rattle.hg_build.specs.Wired.{IsNode, IsOpened, IsConstant, IsChoice, IsBlock, IsControl, IsEntered, IsLeft, IsFinished, after_node, after_choice, after_ends, inner_place, inner_of, call_of, load_of, effect_prior, last_after}
-use Rattle.hg_build.specs.Built.{Frame, frame_at, Base, Built, BuiltAt, Filling, FillingAt, FunctionsBuilt, Fill, Flow, Choice, new_holes, FirstBlock}
-use Rattle.hg_build.specs.Clauses.{OpenBuilt, OpBuilt, ConstantBuilt, CallBuilt, LoadBuilt, ChoiceBuilt, FlowBuilt, BlockBuilt, ControlBuilt, FilledIsStep, EnterBuilt, LeaveBuilt, FinishBuilt, step, next_node}
+use Rattle.hg_graph.specs.Graph.{Graph, Port, op_at, children}
+use Rattle.hg_build.specs.Steps.{Step, body, Hole}
+use Rattle.hg_build.specs.Wired.{IsNode, IsOpened, IsConstant, IsChoice, IsBlock, IsControl, IsEntered, IsLeft, IsFinished, inner_of, call_of, load_of}
+use Rattle.hg_build.specs.Built.{Frame, Base, Built, BuiltAt, Filling, FillingAt, FunctionsBuilt, Fill, Flow, Choice, new_holes}
+use Rattle.hg_build.specs.Clauses.{OpenBuilt, OpBuilt, ConstantBuilt, CallBuilt, LoadBuilt, ChoiceBuilt, FlowBuilt, BlockBuilt, ControlBuilt, FilledIsStep, EnterBuilt, LeaveBuilt, FinishBuilt, next_node}
 use Rattle.hg_build.specs.declared.region.Region.{Region}
 use Rattle.hg_build.specs.declared.region.Place.{Place}
 use Rattle.hg_build.specs.declared.region.Outer.{Outer}

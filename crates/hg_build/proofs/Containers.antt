@@ -1,20 +1,20 @@
 -- What `conditional`, `cfg`, `block`, `control`, `enter`, `leave`, `open` and `finish` make of what was built.
-use Rattle.std.proofs.Common.{◌≡◌, ◌≢◌, ◌⊎◌, inl, inr, ⊎_elim, ℕ, ℤ, zero, suc, ◌+◌, ◌≤◌, ◌<◌, Bool, true, false, cond, not, ◌&&◌, eqb, List, [], ◌∷◌, ◌++◌, length, map, filter, Option, Some, None, slice_get, slice_set, refl, sym, ap, ◌∙◌, subst, arith, le_refl, append-nil, append_assoc, length-append, eq-eqb}
+use Rattle.std.proofs.Common.{◌≡◌, ◌≢◌, inl, inr, ⊎_elim, ℕ, zero, suc, ◌+◌, ◌≤◌, ◌<◌, Bool, true, false, cond, not, ◌&&◌, List, [], ◌∷◌, ◌++◌, length, filter, Option, Some, None, slice_get, slice_set, refl, sym, ap, ◌∙◌, subst, arith, le_refl, append-nil, append_assoc, length-append, eq-eqb}
 use Rattle.gp_base.specs.Membership.{In}
-use Rattle.hg_ops.specs.Op.{Op, Types, Input, Output, Case, Conditional, Cfg, DataflowBlock, ExitBlock, ins_of, fires, is_effect}
-use Rattle.hg_graph.specs.Graph.{Graph, Node, Port, Link, Ports, Order, op_at, parent_at, children, firing_children, feeder, taker}
+use Rattle.hg_ops.specs.Op.{Op, Types, Input, Output, Case, Conditional, Cfg, DataflowBlock, ExitBlock, ins_of, fires}
+use Rattle.hg_graph.specs.Graph.{Graph, Port, Link, Ports, op_at, parent_at, children, firing_children, feeder, taker}
 use Rattle.hg_laws.proofs.Children.{child_is, kid_is}
-use Rattle.hg_build.specs.Steps.{Act, Calls, Step, body, nodes_of, Grows, SamePart, FiresAs, OrderRises, FedBy, PortsIn, StepAt, StepsAt, Laid, known_after, Hole, Way, HolesDo, HolesWithin, HoleDoes, RegionAs, CasesAt, IsCaseAt, BlocksAt, IsBlockAt, EndsAt, IsWayAt, WaysAt, IsExitAt, choice_act, cfg_act, IsFunctionAt}
-use Rattle.hg_build.specs.Wired.{with_node, with_links, with_cases, case_nodes, value_links, order_links, after_node, after_choice, after_ends, inner_place, after_leave, after_control, leave_prior, leave_last, adds_order, is_last, effect_prior, last_after}
-use Rattle.hg_build.specs.Built.{Sound, LastIn, OpenAt, Fill, Choice, Flow, fill_act, IsChoiceAt, IsFlowAt, EntryAt, FillAt, HolesRise, Frame, Halfway, Base, FunctionsAt, ModuleAt, Below, BuiltAt, FillingAt, frame_at, new_holes, Unfilled, FirstBlock, FunctionsBuilt}
+use Rattle.hg_build.specs.Steps.{Act, Calls, Step, body, nodes_of, SamePart, FiresAs, OrderRises, PortsIn, StepAt, StepsAt, Laid, known_after, Hole, Way, HolesDo, HolesWithin, HoleDoes, RegionAs, CasesAt, IsCaseAt, BlocksAt, IsBlockAt, EndsAt, IsWayAt, WaysAt, IsFunctionAt}
+use Rattle.hg_build.specs.Wired.{with_node, with_links, with_cases, case_nodes, value_links, order_links, after_node, after_choice, after_ends, inner_place, after_leave, after_control, leave_prior, leave_last, adds_order, is_last}
+use Rattle.hg_build.specs.Built.{Sound, LastIn, OpenAt, Fill, Choice, Flow, fill_act, EntryAt, FillAt, HolesRise, Frame, Halfway, Base, FunctionsAt, ModuleAt, Below, BuiltAt, FillingAt, frame_at, new_holes, Unfilled, FirstBlock, FunctionsBuilt}
 use Rattle.hg_build.specs.declared.region.Place.{Place}
 use Rattle.hg_build.specs.declared.region.Outer.{Outer}
-use Rattle.hg_build.proofs.Real.{above_at, in_split, in_last}
-use Rattle.hg_build.proofs.Moves.{same_part, steps_rise, steps_in, steps_push, steps_longer, fed_in, region_in, region_runs, grows_trans}
+use Rattle.hg_build.proofs.Real.{above_at, in_last}
+use Rattle.hg_build.proofs.Moves.{same_part, steps_rise, steps_in, steps_push, fed_in, region_in, region_runs}
 use Rattle.hg_build.proofs.Fires.{choice_node, cfg_node}
-use Rattle.hg_build.proofs.Grow.{Grown, Off, part_grown, grown_self, grown_trans, node_grown, links_grown, node_grows, count_node, op_new, firing_parent, children_parent, children_other, children_links, firing_links, op_links, parent_links, get_end, no_children, no_feeder, fed_new, unfed_values, unfed_order, taker_new, links_grow}
-use Rattle.hg_build.proofs.Adds.{NodeAdded, node_added, PortsBelow, SourceBelow, PriorIn, OrderFits, sound_node, sound_values, sound_order, sound_links}
-use Rattle.hg_build.proofs.Frames.{Unfed, unfed_less, steps_grown, rise_top, rise_get, halfway_grown, below_grown, fill_in, functions_in, nodes_push, known_push, stands, Stands, scope_below, prior_in, prior_some, last_more, in_end, later_in}
+use Rattle.hg_build.proofs.Grow.{Grown, grown_self, grown_trans, node_grown, links_grown, count_node, op_new, firing_parent, children_parent, children_other, firing_links, op_links, get_end, no_children, no_feeder, fed_new, unfed_values, unfed_order, taker_new, links_grow}
+use Rattle.hg_build.proofs.Adds.{NodeAdded, node_added, OrderFits, sound_node, sound_values, sound_order}
+use Rattle.hg_build.proofs.Frames.{Unfed, unfed_less, steps_grown, rise_top, rise_get, halfway_grown, below_grown, nodes_push, stands, scope_below, prior_in, last_more, in_end}
 
 -- ---- the cases of a Conditional
 

@@ -1,25 +1,25 @@
 -- The clauses on the rules on containers, from what the calls add.
-use Rattle.std.proofs.Common.{◌≡◌, ◌≢◌, ◌⊎◌, inl, inr, ⊎_elim, ℕ, ℤ, zero, suc, ◌+◌, ◌≤◌, ◌<◌, Bool, true, false, cond, List, [], ◌∷◌, ◌++◌, length, map, Option, Some, None, slice_get, refl, sym, ap, ap₂, ◌∙◌, subst, arith, le_refl}
+use Rattle.std.proofs.Common.{◌≡◌, ◌≢◌, ◌⊎◌, inl, inr, ⊎_elim, ℕ, ℤ, zero, suc, ◌+◌, ◌≤◌, ◌<◌, Bool, true, false, cond, List, [], ◌∷◌, ◌++◌, length, Option, Some, None, slice_get, refl, sym, ap, ap₂, ◌∙◌, subst, arith}
 use Rattle.gp_base.specs.Membership.{In}
 use Rattle.hg_ops.specs.GraphType.{sum_type}
-use Rattle.hg_ops.specs.Op.{Op, Types, FuncDefn, Const, Input, Output, Cfg, DataflowBlock, ExitBlock, Conditional, Case, Tag, Call, CallIndirect, LoadConstant, LoadFunction, Ext, ins_of, inner_ins, inner_outs, is_dataflow_container}
+use Rattle.hg_ops.specs.Op.{Op, Types, FuncDefn, Const, Cfg, DataflowBlock, ExitBlock, Conditional, Tag, Call, CallIndirect, LoadConstant, LoadFunction, Ext, ins_of, inner_ins, inner_outs, is_dataflow_container}
 use Rattle.hg_graph.specs.Graph.{Graph, Port, Link, Ports, Order, IsGraph, LinkIsWithin, op_at, parent_at, children, is_port, links_from, taker}
 use Rattle.hg_graph.specs.Valid.{KeepsBlocks, KeepsCases, KeepsSuccessors, is_boundary, is_block}
 use Rattle.hg_laws.proofs.Children.{child_is, is_child, get_in}
 use Rattle.hg_laws.proofs.Named.{within}
-use Rattle.hg_build.specs.Steps.{Step, PortsIn, known_after, is_leaf, Grows, Hole, Way, way_at, IsCaseAt, CasesAt, IsBlockAt, BlocksAt}
-use Rattle.hg_build.specs.Wired.{with_node, with_links, with_cases, value_links, order_links, static_links, after_node, after_constant, after_choice, after_ends, after_control, after_leave, inner_of, call_of, load_of, IsNode, IsOpened, IsConstant, IsChoice, IsBlock, IsControl, IsEntered, IsLeft, IsFinished}
-use Rattle.hg_build.specs.Built.{Fill, Choice, Flow, Frame, Base, BuiltAt, FillingAt, FillAt, IsChoiceAt, IsFlowAt}
+use Rattle.hg_build.specs.Steps.{Step, PortsIn, known_after, is_leaf, Grows, Hole, Way, way_at, CasesAt, BlocksAt}
+use Rattle.hg_build.specs.Wired.{with_node, with_links, value_links, order_links, static_links, after_node, after_constant, after_choice, after_ends, after_control, after_leave, inner_of, call_of, load_of, IsNode, IsOpened, IsConstant, IsChoice, IsBlock, IsControl, IsEntered, IsLeft, IsFinished}
+use Rattle.hg_build.specs.Built.{Fill, Choice, Flow, Frame, Base, BuiltAt, FillingAt, FillAt}
 use Rattle.hg_build.specs.Clauses.{next_node}
 use Rattle.hg_build.specs.Pending.{times}
-use Rattle.hg_build.specs.Drawn.{Drawn, DrawnAt, Typed, Contains}
-use Rattle.hg_build.specs.Containing.{ContainsAt, TakenOff, with_cases_of, OpenContains, EnterContains, OpContains, ConstantContains, CallContains, LoadContains, ChoiceContains, FlowContains, BlockContains, ControlContains, LeaveContains, FinishContains, Charted, FlowCharted, BlockCharted, ControlCharted, LeadsOn, IsWhole, WholeIsReady, target_of, froms, WaysFrom}
+use Rattle.hg_build.specs.Drawn.{DrawnAt, Typed, Contains}
+use Rattle.hg_build.specs.Containing.{ContainsAt, TakenOff, with_cases_of, OpenContains, EnterContains, OpContains, ConstantContains, CallContains, LoadContains, ChoiceContains, FlowContains, BlockContains, ControlContains, LeaveContains, FinishContains, Charted, FlowCharted, BlockCharted, ControlCharted, WholeIsReady, target_of, froms, WaysFrom}
 use Rattle.hg_build.specs.declared.region.Region.{Region}
 use Rattle.hg_build.specs.declared.region.Place.{Place}
 use Rattle.hg_build.specs.declared.region.Outer.{Outer}
 use Rattle.hg_build.specs.declared.wire.Held.{Held}
 use Rattle.hg_build.proofs.Real.{in_last}
-use Rattle.hg_build.proofs.Grow.{count_node, op_old, op_new, op_links, parent_links, children_links, children_parent, node_grows, links_grow, graph_node, graph_links}
+use Rattle.hg_build.proofs.Grow.{count_node, op_old, op_new, op_links, children_links, children_parent, node_grows, links_grow, graph_node, graph_links}
 use Rattle.hg_build.proofs.Adds.{SourceBelow, source_more, static_within, values_within, ports_more, node_added}
 use Rattle.hg_build.proofs.Frames.{stands, scope_below}
 use Rattle.hg_build.proofs.Containers.{flow_first}
@@ -93,8 +93,8 @@ leaf_is _ e = absurd (wrong e)
 pub op_contains : (old new : Region) (kind : Op) (ps : List Port) (n : ℕ) (handed : List Held) → IsNode old new kind ps None n handed → OpContains old new kind ps
 op_contains old new kind ps n handed a = record {
   by = λ base width frs ss empty unready b dr is y i d.
-    let k = leaf_is kind is in
-    subst (λ x. ContainsAt x empty unready) (sym a.graph) (node_at old.graph base old.place width frs ss kind ps None _ empty unready b dr tt k.0 k.1 k.2 k.3 y i d);
+      let k = leaf_is kind is in
+      subst (λ x. ContainsAt x empty unready) (sym a.graph) (node_at old.graph base old.place width frs ss kind ps None _ empty unready b dr tt k.0 k.1 k.2 k.3 y i d);
 }
 
 function_free : (g : Graph) (f : ℕ) (name : List ℕ) (ins outs : Types) → op_at g f ≡ FuncDefn name ins outs → Free g (Some f)
@@ -103,15 +103,15 @@ function_free g f name ins outs e = (within g f name ins outs e, ap is_block e)
 pub call_contains : (old new : Region) (f : ℕ) (ps : List Port) (n : ℕ) (handed : List Held) → IsNode old new (call_of (op_at old.graph f)) ps (Some f) n handed → CallContains old new f ps
 call_contains old new f ps n handed a = record {
   by = λ base width frs ss name ins outs empty unready b dr fn y i d.
-    let x : IsNode old new (Call ins outs) ps (Some f) n handed = subst (λ k. IsNode old new k ps (Some f) n handed) (ap call_of fn) a in
-    subst (λ z. ContainsAt z empty unready) (sym x.graph) (node_at old.graph base old.place width frs ss (Call ins outs) ps (Some f) _ empty unready b dr (function_free old.graph f name ins outs fn) refl refl refl refl y i d);
+      let x : IsNode old new (Call ins outs) ps (Some f) n handed = subst (λ k. IsNode old new k ps (Some f) n handed) (ap call_of fn) a in
+      subst (λ z. ContainsAt z empty unready) (sym x.graph) (node_at old.graph base old.place width frs ss (Call ins outs) ps (Some f) _ empty unready b dr (function_free old.graph f name ins outs fn) refl refl refl refl y i d);
 }
 
 pub load_contains : (old new : Region) (f n : ℕ) (handed : List Held) → IsNode old new (load_of (op_at old.graph f)) [] (Some f) n handed → LoadContains old new f
 load_contains old new f n handed a = record {
   by = λ base width frs ss name ins outs empty unready b dr fn d.
-    let x : IsNode old new (LoadFunction ins outs) [] (Some f) n handed = subst (λ k. IsNode old new k [] (Some f) n handed) (ap load_of fn) a in
-    subst (λ z. ContainsAt z empty unready) (sym x.graph) (node_at old.graph base old.place width frs ss (LoadFunction ins outs) [] (Some f) None empty unready b dr (function_free old.graph f name ins outs fn) refl refl refl refl tt tt d);
+      let x : IsNode old new (LoadFunction ins outs) [] (Some f) n handed = subst (λ k. IsNode old new k [] (Some f) n handed) (ap load_of fn) a in
+      subst (λ z. ContainsAt z empty unready) (sym x.graph) (node_at old.graph base old.place width frs ss (LoadFunction ins outs) [] (Some f) None empty unready b dr (function_free old.graph f name ins outs fn) refl refl refl refl tt tt d);
 }
 
 constant_at : (g : Graph) (base : Base) (p : Place) (width : ℕ) (frs : List Frame) (ss : List Step) (value : ℤ) (empty unready : List ℕ) → BuiltAt g base p width frs ss → DrawnAt g p frs → ContainsAt g empty unready → ContainsAt (after_constant g value p.container) empty unready
@@ -161,10 +161,10 @@ choice_at g base p width frs ss rows ins outs ps empty unready b dr y i d =
     let w2 : Grows h1 h = cases_grow n rows ins outs h1 in
     let cf = cases_from n rows ins outs h1 (omega arith) in
     record {
-  contains = choice_contained g rows ins outs c ps empty unready b.sound.graph (omega arith) (not_empty g c p.input empty unready b.open_at.laid.input d.contains) d.within (flows_head g p frs dr.flows) (typed_node g kind c ps (ins_of kind) (scope_region g p width ss ps b.open_at i) y) (values_graph g kind p width base frs ss ps b i) a.sound.graph a.at a.childless d.contains;
-  within = λ m j. ⊎_elim (λ x. let q = d.within m x in let u = w1.more in let v = w2.more in omega arith) (λ r. (case_is m r.0 r.1 r.2 more cf).0) (cases_among (suc n) rows empty m j);
-  regions = λ m j. ⊎_elim (λ x. ap is_dataflow_container (w2.ops m (let q = d.within m x in let u = w1.more in omega arith) ∙ w1.ops m (d.within m x)) ∙ d.regions m x) (λ r. (case_is m r.0 r.1 r.2 more cf).1) (cases_among (suc n) rows empty m j);
-}
+      contains = choice_contained g rows ins outs c ps empty unready b.sound.graph (omega arith) (not_empty g c p.input empty unready b.open_at.laid.input d.contains) d.within (flows_head g p frs dr.flows) (typed_node g kind c ps (ins_of kind) (scope_region g p width ss ps b.open_at i) y) (values_graph g kind p width base frs ss ps b i) a.sound.graph a.at a.childless d.contains;
+      within = λ m j. ⊎_elim (λ x. let q = d.within m x in let u = w1.more in let v = w2.more in omega arith) (λ r. (case_is m r.0 r.1 r.2 more cf).0) (cases_among (suc n) rows empty m j);
+      regions = λ m j. ⊎_elim (λ x. ap is_dataflow_container (w2.ops m (let q = d.within m x in let u = w1.more in omega arith) ∙ w1.ops m (d.within m x)) ∙ d.regions m x) (λ r. (case_is m r.0 r.1 r.2 more cf).1) (cases_among (suc n) rows empty m j);
+    }
   where
     case_is : (m k : ℕ) → m ≡ suc (length g.nodes) + k → k < length rows → length (after_node g (Conditional rows ins outs) p.container ps None None).nodes ≡ suc (length g.nodes) → CasesFrom (after_choice g rows ins outs p.container ps) (length g.nodes) (length (after_node g (Conditional rows ins outs) p.container ps None None).nodes) (children (after_node g (Conditional rows ins outs) p.container ps None None) (length g.nodes)) rows ins outs → (m < length (after_choice g rows ins outs p.container ps).nodes) × (is_dataflow_container (op_at (after_choice g rows ins outs p.container ps) m) ≡ true)
     case_is m k e lt more cf =
@@ -207,18 +207,18 @@ block_at g n ins rows others empty unready s f i d =
     let more : length h.nodes ≡ suc (length g.nodes) = count_node g kind n in
     let w = node_grows g kind n in
     record {
-  contains = block_contained g n ins rows others empty unready s f.1 f.0 i f.2 d.contains;
-  within = λ m j. ⊎_elim (λ e. omega arith) (λ x. let q = d.within m x in omega arith) j;
-  regions = λ m j. ⊎_elim (λ e. ap (λ u. is_dataflow_container (op_at h u)) e ∙ ap is_dataflow_container (op_new g kind n)) (λ x. ap is_dataflow_container (w.ops m (d.within m x)) ∙ d.regions m x) j;
-}
+      contains = block_contained g n ins rows others empty unready s f.1 f.0 i f.2 d.contains;
+      within = λ m j. ⊎_elim (λ e. omega arith) (λ x. let q = d.within m x in omega arith) j;
+      regions = λ m j. ⊎_elim (λ e. ap (λ u. is_dataflow_container (op_at h u)) e ∙ ap is_dataflow_container (op_new g kind n)) (λ x. ap is_dataflow_container (w.ops m (d.within m x)) ∙ d.regions m x) j;
+    }
 
 pub block_contains : (old new : Region) (cfg : ℕ) (kind : Op) (n : ℕ) → IsBlock old new cfg kind n → BlockContains old new cfg kind
 block_contains old new cfg kind n a = record {
   block = λ base width frs ss ps ways holes ins rows others empty unready e b i d.
-    subst (λ x. ContainsAt x (next_node old ∷ empty) unready) (sym (a.graph ∙ ap (λ k. with_node old.graph k cfg) e)) (block_at old.graph cfg ins rows others empty unready b.sound.graph (flow_filled old.graph base old.place width frs ss cfg ps ways holes empty unready b d) i d);
+      subst (λ x. ContainsAt x (next_node old ∷ empty) unready) (sym (a.graph ∙ ap (λ k. with_node old.graph k cfg) e)) (block_at old.graph cfg ins rows others empty unready b.sound.graph (flow_filled old.graph base old.place width frs ss cfg ps ways holes empty unready b d) i d);
   exit = λ base width frs ss ps ways holes types empty unready e b i d.
-    let f = flow_filled old.graph base old.place width frs ss cfg ps ways holes empty unready b d in
-    subst (λ x. ContainsAt x empty unready) (sym (a.graph ∙ ap (λ k. with_node old.graph k cfg) e)) (stays old.graph (with_node old.graph (ExitBlock types) cfg) empty unready unready (node_grows old.graph (ExitBlock types) cfg) d (exit_contained old.graph cfg types empty unready b.sound.graph f.1 f.0 i f.2 d.contains));
+      let f = flow_filled old.graph base old.place width frs ss cfg ps ways holes empty unready b d in
+      subst (λ x. ContainsAt x empty unready) (sym (a.graph ∙ ap (λ k. with_node old.graph k cfg) e)) (stays old.graph (with_node old.graph (ExitBlock types) cfg) empty unready unready (node_grows old.graph (ExitBlock types) cfg) d (exit_contained old.graph cfg types empty unready b.sound.graph f.1 f.0 i f.2 d.contains));
 }
 
 pub control_contains : (old new : Region) (from : Port) (to : ℕ) → IsControl old new from to → ControlContains old new from
@@ -231,10 +231,10 @@ ends_at : (g : Graph) (c : ℕ) (empty rest unready : List ℕ) → IsGraph g �
 ends_at g c empty rest unready s t d =
     let w = ends_grow g c (inner_ins (op_at g c)) (inner_outs (op_at g c)) in
     record {
-  contains = ends_contained g c empty rest unready s (d.within c t.here) (d.regions c t.here) t.here t.others t.apart d.contains;
-  within = λ m i. let a = d.within m (t.apart m i).0 in let b = w.more in omega arith;
-  regions = λ m i. let j = (t.apart m i).0 in ap is_dataflow_container (w.ops m (d.within m j)) ∙ d.regions m j;
-}
+      contains = ends_contained g c empty rest unready s (d.within c t.here) (d.regions c t.here) t.here t.others t.apart d.contains;
+      within = λ m i. let a = d.within m (t.apart m i).0 in let b = w.more in omega arith;
+      regions = λ m i. let j = (t.apart m i).0 in ap is_dataflow_container (w.ops m (d.within m j)) ∙ d.regions m j;
+    }
 
 pub open_contains : (old : Graph) (c : ℕ) (ins outs : Types) (new : Region) (handed : List Held) → IsOpened old c ins outs new handed → OpenContains old c ins outs new
 open_contains old c ins outs new handed a = record {
@@ -272,8 +272,8 @@ hole_inner g n k (Flow ways) holes hole f e = block_inner g k holes hole f.block
 pub enter_contains : (old : Region) (c : ℕ) (outer : Outer) (inner : Region) (handed : List Held) → IsEntered old c outer inner handed → EnterContains old c outer inner
 enter_contains old c outer inner handed a = record {
   by = λ base width frs ss ps fill holes k empty rest unready b is t d.
-    let x = hole_inner old.graph outer.node k fill holes (record { node = c; act = None }) b.halfway.filling is in
-    subst (λ u. ContainsAt u rest unready) (sym (a.graph ∙ ap₂ (λ u v. after_ends old.graph c u v) x.0 x.1)) (ends_at old.graph c empty rest unready b.sound.graph t d);
+      let x = hole_inner old.graph outer.node k fill holes (record { node = c; act = None }) b.halfway.filling is in
+      subst (λ u. ContainsAt u rest unready) (sym (a.graph ∙ ap₂ (λ u v. after_ends old.graph c u v) x.0 x.1)) (ends_at old.graph c empty rest unready b.sound.graph t d);
 }
 
 -- ---- `leave` and `finish`
@@ -391,7 +391,7 @@ chart_block g kind cfg kids ways s lt c = record {
 pub block_charted : (old new : Region) (cfg : ℕ) (kind : Op) (n : ℕ) → IsBlock old new cfg kind n → BlockCharted old new cfg n
 block_charted old new cfg kind n a = record {
   by = λ kids ways s lt c.
-    subst (λ m. Charted new.graph cfg (kids ++ m ∷ []) ways) (sym a.number) (subst (λ x. Charted x cfg (kids ++ next_node old ∷ []) ways) (sym a.graph) (chart_block old.graph kind cfg kids ways s lt c));
+      subst (λ m. Charted new.graph cfg (kids ++ m ∷ []) ways) (sym a.number) (subst (λ x. Charted x cfg (kids ++ next_node old ∷ []) ways) (sym a.graph) (chart_block old.graph kind cfg kids ways s lt c));
 }
 
 chart_control : (g : Graph) (from : Port) (to cfg : ℕ) (kids : List ℕ) (ways : List Way) (leaves : Bool) → In from.node kids → Charted g cfg kids ways → Charted (after_control g from to) cfg kids (ways ++ record { from = from; to = to; leaves = leaves } ∷ [])
@@ -399,15 +399,15 @@ chart_control g from to cfg kids ways leaves i c = record {
   are = children_links g (Ports from (record { node = to; index = 0 }) ∷ []) cfg ∙ c.are;
   own = ways_push kids (record { from = from; to = to; leaves = leaves }) ways i c.own;
   count = λ p j.
-    let x = from_append g.links (Ports from (record { node = to; index = 0 }) ∷ []) p in
-    let y = ap (λ ps. times ps p) (froms_append ways (record { from = from; to = to; leaves = leaves })) in
-    let z = times_append (froms ways) (from ∷ []) p in
-    let w = c.count p j in
-    omega arith;
+      let x = from_append g.links (Ports from (record { node = to; index = 0 }) ∷ []) p in
+      let y = ap (λ ps. times ps p) (froms_append ways (record { from = from; to = to; leaves = leaves })) in
+      let z = times_append (froms ways) (from ∷ []) p in
+      let w = c.count p j in
+      omega arith;
   takes = λ p j.
-    taker_more g.links from (record { node = to; index = 0 }) p
-    ∙ ap (λ o. first_of o (cond (is_port from p) (Some (record { node = to; index = 0 })) None)) (c.takes p j)
-    ∙ sym (way_more ways (record { from = from; to = to; leaves = leaves }) p);
+      taker_more g.links from (record { node = to; index = 0 }) p
+      ∙ ap (λ o. first_of o (cond (is_port from p) (Some (record { node = to; index = 0 })) None)) (c.takes p j)
+      ∙ sym (way_more ways (record { from = from; to = to; leaves = leaves }) p);
 }
 
 pub control_charted : (old new : Region) (from : Port) (to : ℕ) → IsControl old new from to → ControlCharted old new from to
@@ -418,14 +418,20 @@ control_charted old new from to a = record {
 pub whole_is_ready : WholeIsReady
 whole_is_ready g n kids ways ins outs empty unready c w d = record {
   contains = ready_now g n empty unready
-    (subst (KeepsBlocks g n) (sym w.is) (record {
-      entry = w.entry; exit = w.exit; rest = w.rest; rows = w.rows; others = w.others;
-      are_children = c.are ∙ w.kids_are;
-      entry_is = w.entry_is; exit_is = w.exit_is; no_other = w.no_other;
-    }))
-    (subst (KeepsCases g n) (sym w.is) tt)
-    (λ m l q. leads m (subst (λ ks. In m ks) c.are (is_child g n m l q (λ e. w.apart (ap (parent_at g) (sym e) ∙ q ∙ refl)))) (op_at g m) refl)
-    d.contains;
+      (subst (KeepsBlocks g n) (sym w.is) (record {
+        entry = w.entry;
+        exit = w.exit;
+        rest = w.rest;
+        rows = w.rows;
+        others = w.others;
+        are_children = c.are ∙ w.kids_are;
+        entry_is = w.entry_is;
+        exit_is = w.exit_is;
+        no_other = w.no_other;
+      }))
+      (subst (KeepsCases g n) (sym w.is) tt)
+      (λ m l q. leads m (subst (λ ks. In m ks) c.are (is_child g n m l q (λ e. w.apart (ap (parent_at g) (sym e) ∙ q ∙ refl)))) (op_at g m) refl)
+      d.contains;
   within = d.within;
   regions = d.regions;
 }

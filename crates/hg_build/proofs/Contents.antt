@@ -1,16 +1,16 @@
 -- What nodes and links make of the rules on containers.
-use Rattle.std.proofs.Common.{◌≡◌, ◌≢◌, ◌⊎◌, inl, inr, ⊎_elim, ℕ, zero, suc, ◌+◌, ◌≤◌, ◌<◌, Bool, true, false, cond, List, [], ◌∷◌, ◌++◌, length, map, Option, Some, None, slice_get, refl, sym, ap, ◌∙◌, subst, arith, le_refl, append-nil, append_assoc, length-append}
+use Rattle.std.proofs.Common.{◌≡◌, ◌≢◌, ◌⊎◌, inl, inr, ⊎_elim, ℕ, zero, suc, ◌+◌, ◌<◌, Bool, true, false, cond, List, [], ◌∷◌, ◌++◌, length, Option, Some, None, slice_get, refl, sym, ap, ◌∙◌, subst, arith, append-nil, length-append}
 use Rattle.gp_base.specs.Membership.{In}
-use Rattle.hg_ops.specs.Op.{Op, Types, Module, FuncDefn, Const, Input, Output, Dfg, Cfg, DataflowBlock, ExitBlock, Conditional, Case, TailLoop, Tag, Call, LoadConstant, Ext, ins_of, outs_of, is_dataflow_container, inner_ins, inner_outs}
+use Rattle.hg_ops.specs.Op.{Op, Types, FuncDefn, Input, Output, Dfg, Cfg, DataflowBlock, ExitBlock, Conditional, Case, TailLoop, ins_of, outs_of, is_dataflow_container, inner_ins, inner_outs}
 use Rattle.hg_graph.specs.Graph.{Graph, Port, Link, Ports, Order, IsGraph, LinkIsWithin, op_at, parent_at, children, taker, is_port, links_from}
-use Rattle.hg_graph.specs.Valid.{HasBoundary, HasBlocks, HasCase, HasCases, HasSuccessor, HasSuccessors, KeepsBlocks, KeepsCases, KeepsSuccessors, is_boundary, is_exit, is_block, block_ins}
+use Rattle.hg_graph.specs.Valid.{HasBoundary, KeepsBlocks, KeepsCases, KeepsSuccessors, is_boundary, is_exit, is_block, block_ins}
 use Rattle.hg_laws.proofs.Children.{child_is, is_child, get_in}
 use Rattle.hg_laws.proofs.Lists.{get_within}
 use Rattle.hg_build.specs.Steps.{Grows}
 use Rattle.hg_build.specs.Wired.{with_node, with_links, with_cases, after_ends, after_node, after_choice, value_links, order_links, static_links}
 use Rattle.hg_build.specs.Drawn.{Contains, Typed}
 use Rattle.hg_build.specs.Containing.{with_cases_of}
-use Rattle.hg_build.proofs.Real.{in_split, in_last}
+use Rattle.hg_build.proofs.Real.{in_last}
 use Rattle.hg_build.proofs.Moves.{grows_trans}
 use Rattle.hg_build.proofs.Grow.{count_node, op_old, op_new, parent_old, parent_new, op_links, parent_links, children_links, children_parent, children_other, no_children, node_grows, links_grow, get_end, graph_node}
 use Rattle.hg_build.proofs.Linear.{split, skip, other_port, from_append, from_values, from_order}

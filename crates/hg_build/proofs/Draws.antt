@@ -1,16 +1,15 @@
 -- What nodes and links make of the rules that a graph keeps.
-use Rattle.std.proofs.Common.{◌≡◌, ◌≢◌, ◌⊎◌, inl, inr, ⊎_elim, ℕ, ℤ, zero, suc, ◌+◌, ◌≤◌, ◌<◌, Bool, true, false, cond, not, ◌&&◌, eqb, List, [], ◌∷◌, ◌++◌, length, map, Option, Some, None, slice_get, refl, sym, ap, ◌∙◌, subst, arith, eq-eqb, eqb-true, ne_eqb, le_refl, append-nil, append_assoc, length-append}
+use Rattle.std.proofs.Common.{◌≡◌, ◌≢◌, ◌⊎◌, inl, inr, ⊎_elim, ℕ, ℤ, zero, suc, ◌+◌, ◌≤◌, ◌<◌, Bool, true, false, cond, ◌&&◌, eqb, List, [], ◌∷◌, ◌++◌, length, map, Option, Some, None, slice_get, refl, sym, ap, ◌∙◌, subst, arith, eq-eqb, ne_eqb, append_assoc, length-append}
 use Rattle.gp_base.specs.Membership.{In}
 use Rattle.hg_ops.specs.GraphType.{GraphType}
-use Rattle.hg_ops.specs.Op.{Op, Types, Module, FuncDefn, Const, Input, Output, Dfg, Cfg, DataflowBlock, ExitBlock, Conditional, Case, TailLoop, Tag, Call, LoadConstant, LoadFunction, Ext, PortKind, ValuePort, ControlPort, FunctionPort, ConstantPort, ins_of, outs_of, input_ports, output_ports, is_operation}
+use Rattle.hg_ops.specs.Op.{Op, Types, FuncDefn, Const, Output, Call, LoadConstant, LoadFunction, PortKind, ValuePort, FunctionPort, ConstantPort, ins_of, outs_of, input_ports, output_ports, is_operation}
 use Rattle.hg_graph.specs.Graph.{Graph, Port, Link, Ports, Order, IsGraph, LinkIsWithin, op_at, parent_at, feeder, is_port, links_into, static_input}
-use Rattle.hg_graph.specs.Valid.{HasPlace, SuitsParent, may_stand_in, is_module, LinksJoin, JoinsPorts, JoinsNodes, InputsAreFed, LinksStayInside, is_local, Edge, along_value, along_order, HasStatic, HasCallee, HasNewName, KeepsName, KeepsTags, is_output, is_input, name_of}
+use Rattle.hg_graph.specs.Valid.{HasPlace, SuitsParent, may_stand_in, is_module, LinksJoin, JoinsPorts, JoinsNodes, LinksStayInside, is_local, Edge, along_value, along_order, KeepsName, KeepsTags, is_output, is_input, name_of}
 use Rattle.hg_build.specs.Steps.{Grows}
 use Rattle.hg_build.specs.Wired.{with_node, with_links, value_links, order_links, static_links}
-use Rattle.hg_build.specs.Drawn.{Drawn, CallAt, ConstantAt, StaticAt, Typed, owes_static}
+use Rattle.hg_build.specs.Drawn.{Drawn, StaticAt, Typed, owes_static}
 use Rattle.hg_build.proofs.Real.{in_split}
 use Rattle.hg_build.proofs.Grow.{count_node, op_old, op_new, parent_old, parent_new, op_links, parent_links, graph_node, graph_links, node_grows, links_grow}
-use Rattle.hg_build.proofs.Fires.{port_is}
 use Rattle.hg_build.proofs.Joins.{with_none}
 use Rattle.hg_build.specs.Wired.{after_node}
 use Rattle.hg_build.proofs.Linear.{split, skip, hit, other_port}

@@ -1,17 +1,16 @@
 -- What a node does, by its op.
-use Rattle.std.proofs.Common.{◌≡◌, ◌≢◌, ◌⊎◌, inl, inr, ⊎_elim, ℕ, ℤ, zero, suc, ◌+◌, ◌≤◌, ◌<◌, Bool, true, false, cond, eqb, eqb-true, ltb, List, [], ◌∷◌, ◌++◌, length, Option, Some, None, slice_get, refl, sym, ap, ◌∙◌, subst, arith, le_refl}
-use Rattle.gp_base.specs.Membership.{In}
-use Rattle.gp_base.specs.Run.{Run, Out, Returned, Stopped, Stop, TurnsUsed, OutcomesUsed, DivisionByZero, Stuck, go_on, ◌>>=◌, ret, stop}
+use Rattle.std.proofs.Common.{◌≡◌, ◌≢◌, ℕ, ℤ, zero, suc, ◌+◌, ◌≤◌, ◌<◌, Bool, true, false, cond, eqb, eqb-true, ltb, List, [], ◌∷◌, ◌++◌, length, Option, Some, None, slice_get, refl, sym, ap, ◌∙◌, subst, arith, le_refl}
+use Rattle.gp_base.specs.Run.{Out, Returned, Stopped, TurnsUsed, OutcomesUsed, DivisionByZero, Stuck, ◌>>=◌, ret}
 use Rattle.gp_base.specs.World.{World, take_turn}
-use Rattle.hg_ops.specs.Op.{Op, Types, Module, FuncDefn, Const, Input, Output, Dfg, Cfg, DataflowBlock, ExitBlock, Conditional, Case, TailLoop, Tag, Call, CallIndirect, LoadConstant, LoadFunction, Ext, Extension}
-use Rattle.hg_graph.specs.Graph.{Graph, Port, op_at, children, firing_children, feeder, taker, static_input, is_port}
-use Rattle.hg_graph.specs.Run.{Open, State, Enter, no_note, with_world, on_world, at_node, at_port, with_variant, with_function, name_of_function, constant, after_turn, fire, fire_op, enter_op, region, jump, perform}
+use Rattle.hg_ops.specs.Op.{Op, Types, FuncDefn, Const, Cfg, Conditional, Tag, Call, CallIndirect, LoadConstant, LoadFunction, Ext}
+use Rattle.hg_graph.specs.Graph.{Graph, Port, op_at, children, feeder, taker, static_input, is_port}
+use Rattle.hg_graph.specs.Run.{Open, Enter, no_note, with_world, at_node, at_port, with_variant, with_function, after_turn, fire_op, enter_op, jump, perform}
 use Rattle.hg_graph.specs.Valid.{name_of}
 use Rattle.hg_graph.specs.Value.{Value, Int, Qubit, Variant, Function, values, callee}
 use Rattle.hg_laws.proofs.Named.{within}
 use Rattle.hg_build.proofs.Names.{found_named}
 use Rattle.hg_laws.proofs.Children.{both_true}
-use Rattle.hg_build.specs.Steps.{Act, Calls, Step, quiet, Tracks, Runner, Grows, SamePart, FiresAs, RegionAs, plain_act, constant_act, call_act, function_act, found_act, indirect_act, Finds, IsNamed, Hole, filled, hole_act, by_variant, choice_act, Way, hole_at, way_at, go_way, forward, walk, cfg_act, is_plain, HoleDoes, HolesDo, HolesWithin, IsCaseAt, CasesAt, IsBlockAt, BlocksAt, IsExitAt, EndsAt, IsWayAt, WaysAt}
+use Rattle.hg_build.specs.Steps.{Act, Calls, quiet, Tracks, Runner, Grows, SamePart, FiresAs, plain_act, constant_act, call_act, function_act, found_act, indirect_act, Finds, IsNamed, Hole, filled, hole_act, by_variant, choice_act, Way, hole_at, way_at, go_way, forward, walk, cfg_act, is_plain, HoleDoes, HolesDo, HolesWithin, CasesAt, IsBlockAt, BlocksAt, EndsAt, WaysAt}
 use Rattle.hg_build.specs.Built.{EntryAt}
 use Rattle.hg_build.proofs.Real.{tracks_then}
 use Rattle.hg_build.proofs.Moves.{same_part}

@@ -1,15 +1,15 @@
 -- What stays of a region and of those that wait round it, and what one more step makes of them.
-use Rattle.std.proofs.Common.{◌≡◌, ◌≢◌, ◌⊎◌, inl, inr, ⊎_elim, ℕ, ℤ, zero, suc, ◌+◌, ◌≤◌, ◌<◌, Bool, true, false, cond, List, [], ◌∷◌, ◌++◌, length, map, Option, Some, None, slice_get, refl, sym, ap, ◌∙◌, subst, arith, le_refl, append-nil}
+use Rattle.std.proofs.Common.{◌≡◌, ◌≢◌, ◌⊎◌, inl, inr, ⊎_elim, ℕ, ℤ, zero, suc, ◌≤◌, ◌<◌, Bool, true, false, cond, List, [], ◌∷◌, ◌++◌, length, Option, Some, None, slice_get, refl, sym, ap, ◌∙◌, subst, arith, le_refl, append-nil}
 use Rattle.gp_base.specs.Membership.{In}
 use Rattle.hg_ops.specs.Op.{Op, Types, Tag, Ext, Const, LoadConstant, LoadFunction, FuncDefn, Call, CallIndirect, ins_of, fires, is_effect}
-use Rattle.hg_graph.specs.Graph.{Graph, Port, op_at, parent_at, children, firing_children, feeder, taker, static_input}
+use Rattle.hg_graph.specs.Graph.{Graph, Port, op_at, firing_children, feeder}
 use Rattle.hg_laws.proofs.Children.{child_is, kid_is}
-use Rattle.hg_build.specs.Steps.{Act, Calls, Step, nodes_of, Grows, SamePart, FiresAs, FedBy, PortsIn, StepAt, StepsAt, Laid, known_after, Hole, Way, HolesDo, HoleDoes, RegionAs, CasesAt, IsCaseAt, BlocksAt, IsBlockAt, EndsAt, IsWayAt, WaysAt, IsExitAt, IsFunctionAt, is_plain, plain_act, constant_act, call_act, function_act, indirect_act, Finds}
-use Rattle.hg_build.specs.Wired.{with_node, with_links, after_node, effect_prior, last_after, after_constant, call_of}
-use Rattle.hg_build.specs.Built.{Sound, LastIn, OpenAt, Fill, Choice, Flow, IsChoiceAt, IsFlowAt, EntryAt, FillAt, HolesRise, Frame, Halfway, Base, FunctionsAt, ModuleAt, Below, BuiltAt}
+use Rattle.hg_build.specs.Steps.{Act, Calls, Step, nodes_of, Grows, FiresAs, PortsIn, StepAt, StepsAt, known_after, Hole, Way, HolesDo, HoleDoes, CasesAt, BlocksAt, EndsAt, IsWayAt, WaysAt, is_plain, plain_act, constant_act, call_act, function_act, indirect_act, Finds}
+use Rattle.hg_build.specs.Wired.{with_node, after_node, effect_prior, last_after, after_constant}
+use Rattle.hg_build.specs.Built.{LastIn, OpenAt, Fill, Choice, Flow, EntryAt, FillAt, HolesRise, Frame, Halfway, Base, FunctionsAt, Below, BuiltAt}
 use Rattle.hg_build.specs.declared.region.Place.{Place}
-use Rattle.hg_build.proofs.Real.{above_at, in_split}
-use Rattle.hg_build.proofs.Moves.{same_part, steps_rise, steps_in, steps_push, steps_longer, fed_in, region_in}
+use Rattle.hg_build.proofs.Real.{above_at}
+use Rattle.hg_build.proofs.Moves.{steps_rise, steps_in, steps_push, steps_longer, fed_in, region_in}
 use Rattle.hg_build.proofs.Fires.{plain_node, constant_node, call_node, load_node, indirect_node, finds_in}
 use Rattle.hg_laws.proofs.Named.{within}
 use Rattle.hg_build.proofs.Grow.{Grown, Off, part_grown, node_grown, count_node, firing_parent, op_new}

@@ -1,16 +1,13 @@
 -- What stays when the builder adds a node or a link.
-use Rattle.std.proofs.Common.{◌≡◌, ◌≢◌, ◌⊎◌, inl, inr, ⊎_elim, ℕ, zero, suc, ◌+◌, ◌≤◌, ◌<◌, Bool, true, false, cond, not, ◌&&◌, eqb, List, [], ◌∷◌, ◌++◌, length, map, filter, Option, Some, None, slice_get, refl, sym, ap, ◌∙◌, subst, arith, eq-eqb, eqb-true, ne_eqb, le_refl, append_assoc, append-nil, length-append}
+use Rattle.std.proofs.Common.{◌≡◌, ◌≢◌, ◌⊎◌, inl, inr, ⊎_elim, ℕ, zero, suc, ◌+◌, ◌≤◌, ◌<◌, Bool, true, false, cond, not, ◌&&◌, eqb, List, [], ◌∷◌, ◌++◌, length, filter, Option, Some, None, slice_get, refl, sym, ap, ◌∙◌, arith, eq-eqb, eqb-true, ne_eqb, le_refl, append_assoc, append-nil, length-append}
 use Rattle.gp_base.specs.Membership.{In}
-use Rattle.hg_ops.specs.Op.{Op, ins_of, fires}
-use Rattle.hg_graph.specs.Graph.{Graph, Node, Port, Link, Ports, Order, IsGraph, LinkIsWithin, op_at, op_of, parent_at, parent_of, children, firing_children, numbers, feeder, taker, is_port}
-use Rattle.hg_laws.proofs.Children.{child_is, is_child, kid_is}
-use Rattle.hg_laws.proofs.Lists.{In-filter}
-use Rattle.hg_build.specs.Steps.{Grows, SamePart, OrderRises, OrdersRise, FedBy}
+use Rattle.hg_ops.specs.Op.{Op, fires}
+use Rattle.hg_graph.specs.Graph.{Graph, Port, Link, Ports, Order, IsGraph, LinkIsWithin, op_at, op_of, parent_at, parent_of, children, firing_children, numbers, feeder, taker, is_port}
+use Rattle.hg_laws.proofs.Children.{child_is}
+use Rattle.hg_build.specs.Steps.{Grows, SamePart, FedBy}
 use Rattle.hg_build.specs.Wired.{with_node, with_links, value_links, order_links, static_links}
-use Rattle.hg_build.specs.Built.{Sound}
 use Rattle.hg_build.proofs.Real.{in_split, grows_self}
 use Rattle.hg_build.proofs.Moves.{grows_trans}
-use Rattle.hg_build.proofs.Fires.{port_is}
 
 -- ---- lists
 get_left : {X : Type 0} (xs ys : List X) (m : ℕ) → m < length xs → slice_get (xs ++ ys) m ≡ slice_get xs m

@@ -1,8 +1,8 @@
 -- The clauses on the rules that the calls keep, from what they add.
-use Rattle.std.proofs.Common.{◌≡◌, ℕ, ◌<◌, List, [], ◌∷◌, length, Option, Some, None, ℤ, refl, sym, ap, ◌∙◌, subst}
-use Rattle.hg_ops.specs.Op.{Op, Types, FuncDefn, Call, LoadFunction, Cfg, ins_of, outs_of}
+use Rattle.std.proofs.Common.{◌≡◌, ℕ, List, [], ◌∷◌, Some, None, ℤ, sym, ap, ◌∙◌, subst}
+use Rattle.hg_ops.specs.Op.{Op, Types, Call, LoadFunction, Cfg}
 use Rattle.hg_graph.specs.Graph.{Graph, Port, op_at}
-use Rattle.hg_build.specs.Wired.{IsNode, IsOpened, IsConstant, IsChoice, IsBlock, IsControl, IsEntered, IsLeft, IsFinished, with_node, call_of, load_of, after_node, after_leave, leave_prior, leave_last}
+use Rattle.hg_build.specs.Wired.{IsNode, IsOpened, IsConstant, IsChoice, IsBlock, IsControl, IsEntered, IsLeft, IsFinished, with_node, call_of, load_of, after_leave, leave_prior, leave_last}
 use Rattle.hg_build.specs.Built.{Frame}
 use Rattle.hg_build.specs.Drawn.{Drawn, DrawnAt}
 use Rattle.hg_build.specs.Kept.{OpenKept, OpKept, ConstantKept, CallKept, LoadKept, ChoiceKept, FlowKept, LeaveKept, FinishKept, EnterKept, BlockKept, ControlKept, DrawnIn}

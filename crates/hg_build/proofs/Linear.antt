@@ -1,12 +1,10 @@
 -- What the calls of the builder make of pending ports.
-use Rattle.std.proofs.Common.{◌≡◌, ◌≢◌, ◌⊎◌, inl, inr, ⊎_elim, ℕ, ℤ, zero, suc, ◌+◌, ◌≤◌, ◌<◌, Bool, true, false, cond, not, ◌&&◌, eqb, List, [], ◌∷◌, ◌++◌, length, map, Option, Some, None, slice_get, refl, sym, ap, ◌∙◌, subst, arith, eq-eqb, eqb-true, ne_eqb, le_refl, append-nil, append_assoc, length-append}
-use Rattle.std.proofs.lemmas.Bool.Decides.{eqb_tells}
+use Rattle.std.proofs.Common.{◌≡◌, ◌≢◌, ◌⊎◌, inl, inr, ⊎_elim, ℕ, ℤ, zero, suc, ◌+◌, ◌≤◌, ◌<◌, Bool, true, false, cond, List, [], ◌∷◌, ◌++◌, length, Option, Some, None, slice_get, refl, sym, ap, ◌∙◌, subst, arith, eq-eqb, ne_eqb, append-nil, append_assoc, length-append}
 use Rattle.gp_base.specs.Membership.{In}
 use Rattle.hg_ops.specs.GraphType.{GraphType, is_linear}
 use Rattle.hg_ops.specs.Op.{Op, Module, Types, Const, LoadConstant, Input, Output, Case, FuncDefn, Conditional, outs_of}
 use Rattle.hg_graph.specs.Graph.{Graph, Port, Link, Ports, Order, IsGraph, LinkIsWithin, op_at, op_of, is_port, links_from}
 use Rattle.hg_graph.specs.Valid.{LinearOutputsAreTaken}
-use Rattle.hg_laws.proofs.Lists.{get_within}
 use Rattle.hg_build.specs.Steps.{Grows}
 use Rattle.hg_build.specs.Wired.{with_node, with_links, with_cases, after_constant, after_choice, after_ends, after_control, value_links, order_links, static_links, after_node, out_held, load_of, port_of, ports_of}
 use Rattle.hg_build.specs.Pending.{times, linears, Pends, FitsAt, Fits, Takes, PendsAfter}
@@ -17,7 +15,7 @@ use Rattle.hg_build.specs.declared.region.Outer.{Outer}
 use Rattle.hg_build.proofs.Joins.{with_none}
 use Rattle.hg_build.proofs.Fires.{port_is}
 use Rattle.hg_build.proofs.Moves.{grows_trans}
-use Rattle.hg_build.proofs.Grow.{count_node, op_old, op_new, op_links, node_grows, links_grow, graph_node, graph_links}
+use Rattle.hg_build.proofs.Grow.{count_node, op_new, op_links, node_grows, links_grow, graph_node, graph_links}
 use Rattle.hg_build.proofs.Adds.{PortsBelow, values_within, ports_more}
 use Rattle.hg_build.proofs.Containers.{with_cases_more}
 

@@ -1,11 +1,8 @@
 -- What is laid in one graph is laid in each graph that has the same part.
-use Rattle.std.proofs.Common.{◌≡◌, ◌≢◌, ◌⊎◌, inl, inr, ⊎_elim, ℕ, zero, suc, ◌+◌, ◌≤◌, ◌<◌, Bool, true, false, List, [], ◌∷◌, ◌++◌, length, map, Option, Some, None, slice_get, refl, sym, ap, ◌∙◌, subst, arith, le_refl}
-use Rattle.gp_base.specs.Run.{Out}
-use Rattle.gp_base.specs.World.{World}
+use Rattle.std.proofs.Common.{◌≡◌, ℕ, suc, ◌≤◌, ◌<◌, List, [], ◌∷◌, ◌++◌, length, ap, ◌∙◌, arith, le_refl}
 use Rattle.hg_ops.specs.Op.{ins_of}
-use Rattle.hg_graph.specs.Graph.{Graph, Port, op_at, parent_at, children, firing_children, feeder, taker}
-use Rattle.hg_graph.specs.Value.{Value}
-use Rattle.hg_build.specs.Steps.{Act, Calls, Step, body, nodes_of, Grows, SamePart, FiresAs, RegionAs, PortsIn, FedBy, StepAt, StepsAt, Laid, known_after}
+use Rattle.hg_graph.specs.Graph.{Graph, Port, op_at, firing_children}
+use Rattle.hg_build.specs.Steps.{Act, Calls, Step, body, Grows, SamePart, FiresAs, RegionAs, FedBy, StepAt, StepsAt, Laid, known_after}
 use Rattle.hg_build.proofs.Real.{region_tracks}
 
 pub grows_trans : (g h j : Graph) → Grows g h → Grows h j → Grows g j

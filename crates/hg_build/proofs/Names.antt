@@ -1,11 +1,11 @@
 -- The first function of a name is found.
-use Rattle.std.proofs.Common.{◌≡◌, ℕ, zero, suc, ◌+◌, ◌<◌, Bool, true, false, cond, List, [], ◌∷◌, Option, Some, None, slice_get, refl, sym, ap, ◌∙◌, arith}
+use Rattle.std.proofs.Common.{◌≡◌, ℕ, zero, suc, ◌+◌, ◌<◌, Bool, true, false, cond, List, [], ◌∷◌, Option, Some, None, slice_get, refl, ap, ◌∙◌, arith}
 use Rattle.std.specs.Str.{bytes_eq}
 use Rattle.std.proofs.lemmas.Slice.Eq.{bytes_eq-Decides}
 use Rattle.hg_ops.specs.Op.{Op, Types, Module, FuncDefn}
 use Rattle.hg_graph.specs.Graph.{Node, Graph, op_of, op_at}
 use Rattle.hg_graph.specs.Valid.{name_of}
-use Rattle.hg_graph.specs.Value.{place_by, place_among, function_named, functions, is_signature, callee}
+use Rattle.hg_graph.specs.Value.{place_by, place_among, function_named, is_signature, callee}
 use Rattle.hg_laws.proofs.Named.{functions_new, and_true, same_types-refl}
 use Rattle.hg_ops.specs.SameType.{same_types}
 use Rattle.hg_build.specs.Steps.{IsNamed}

@@ -1,14 +1,13 @@
 -- Effect nodes of a region stand on one chain.
-use Rattle.std.proofs.Common.{◌≡◌, ◌≢◌, ◌⊎◌, inl, inr, ⊎_elim, ℕ, zero, suc, ◌+◌, ◌≤◌, ◌<◌, Bool, true, false, cond, not, ◌&&◌, eqb-true, List, [], ◌∷◌, ◌++◌, length, Option, Some, None, slice_get, refl, sym, ap, ◌∙◌, subst, arith, le_refl}
+use Rattle.std.proofs.Common.{◌≡◌, ◌≢◌, ◌⊎◌, inl, inr, ⊎_elim, ℕ, suc, ◌≤◌, ◌<◌, Bool, true, false, cond, not, ◌&&◌, eqb-true, List, [], ◌∷◌, ◌++◌, length, Option, Some, None, refl, sym, ap, ◌∙◌, subst, arith}
 use Rattle.gp_base.specs.Membership.{In}
-use Rattle.hg_ops.specs.Op.{Op, ins_of, is_effect, is_dataflow_container}
-use Rattle.hg_graph.specs.Graph.{Graph, Port, Link, Ports, Order, IsGraph, LinkIsWithin, op_at, parent_at, children}
+use Rattle.hg_ops.specs.Op.{ins_of, is_effect, is_dataflow_container}
+use Rattle.hg_graph.specs.Graph.{Graph, Link, Ports, Order, IsGraph, op_at, parent_at, children}
 use Rattle.hg_graph.specs.Valid.{Path, edge, joined, Edge, along_value, along_order}
-use Rattle.hg_graph.specs.Ordered.{HasEffect, own, inside, IsOrdered}
+use Rattle.hg_graph.specs.Ordered.{HasEffect, own, inside}
 use Rattle.hg_laws.proofs.Children.{child_is, kid_is, is_child}
 use Rattle.hg_build.specs.Steps.{Grows}
-use Rattle.hg_build.specs.Wired.{with_node, with_links, order_links, adds_order, is_last, leave_prior, leave_last}
-use Rattle.hg_build.specs.Drawn.{Drawn}
+use Rattle.hg_build.specs.Wired.{adds_order, is_last, leave_prior, leave_last}
 use Rattle.hg_build.specs.Marks.{Latest, Owns, Marks, MarkedAt, MarkedIsOrdered, Latests, lates}
 use Rattle.hg_build.specs.Built.{Frame}
 use Rattle.hg_build.specs.declared.region.Place.{Place}

@@ -1,14 +1,14 @@
 -- A graph that realizes a list of steps runs as the steps do.
-use Rattle.std.proofs.Common.{◌≡◌, ◌≢◌, ◌⊎◌, inl, inr, ⊎_elim, ℕ, zero, suc, ◌+◌, ◌≤◌, ◌<◌, Bool, true, false, cond, not, ◌&&◌, ◌||◌, eqb, List, [], ◌∷◌, ◌++◌, length, map, filter, filter_map, Option, Some, None, is_some, slice_get, refl, sym, ap, ◌∙◌, subst, arith, eq-eqb, eqb-true, ne_eqb, append_assoc, le_refl}
+use Rattle.std.proofs.Common.{◌≡◌, ◌≢◌, ◌⊎◌, inl, inr, ⊎_elim, ℕ, suc, ◌≤◌, ◌<◌, Bool, true, false, cond, not, ◌&&◌, ◌||◌, eqb, List, [], ◌∷◌, ◌++◌, length, filter_map, Option, Some, None, is_some, refl, sym, ap, ◌∙◌, subst, arith, eq-eqb, eqb-true, ne_eqb, append_assoc, le_refl}
 use Rattle.gp_base.specs.Membership.{In}
-use Rattle.gp_base.specs.Run.{Run, Out, Returned, Stopped, Stop, TurnsUsed, OutcomesUsed, DivisionByZero, Stuck, go_on, ◌>>=◌, or_stuck}
+use Rattle.gp_base.specs.Run.{Run, Out, Returned, Stopped, TurnsUsed, OutcomesUsed, DivisionByZero, Stuck, go_on, ◌>>=◌, or_stuck}
 use Rattle.gp_base.specs.World.{World}
-use Rattle.hg_ops.specs.Op.{ins_of, fires}
-use Rattle.hg_graph.specs.Graph.{Graph, Port, Link, Ports, Order, op_at, parent_at, children, firing_children, feeder}
-use Rattle.hg_graph.specs.Run.{Fired, Open, Look, outs_at, has_fired, value_at, value_of, cons_both, pulled, inputs, orders_kept, Ready, with_inputs, candidate, ready, State, Enter, no_note, choose, at_moment, at_node, fire, firings, region}
+use Rattle.hg_ops.specs.Op.{ins_of}
+use Rattle.hg_graph.specs.Graph.{Graph, Port, Link, Ports, Order, op_at, parent_at, firing_children}
+use Rattle.hg_graph.specs.Run.{Fired, Open, Look, outs_at, has_fired, pulled, inputs, orders_kept, Ready, candidate, ready, State, Enter, no_note, fire, firings, region}
 use Rattle.hg_graph.specs.Value.{Value}
 use Rattle.hg_laws.proofs.Children.{child_is, is_child, kid_is, is_kid}
-use Rattle.hg_build.specs.Steps.{Act, Calls, Step, values_at, run_steps, body, nodes_of, quiet, Tracks, Runner, OrderRises, Grows, SamePart, FiresAs, RegionAs, PortsIn, FedBy, StepAt, StepsAt, Laid}
+use Rattle.hg_build.specs.Steps.{Calls, Step, values_at, run_steps, body, nodes_of, quiet, Tracks, Runner, OrderRises, Grows, SamePart, FedBy, StepsAt, Laid}
 
 -- ---- runs that track
 

@@ -1,22 +1,21 @@
 -- Which rules the calls of the builder keep.
-use Rattle.std.proofs.Common.{◌≡◌, ◌≢◌, ◌⊎◌, inl, inr, ⊎_elim, ℕ, ℤ, zero, suc, ◌+◌, ◌≤◌, ◌<◌, Bool, true, false, cond, not, ◌&&◌, List, [], ◌∷◌, ◌++◌, length, map, Option, Some, None, slice_get, refl, sym, ap, ◌∙◌, subst, arith, le_refl, append-nil}
+use Rattle.std.proofs.Common.{◌≡◌, ◌⊎◌, inl, inr, ⊎_elim, ℕ, ℤ, zero, suc, ◌≤◌, ◌<◌, Bool, true, false, cond, List, [], ◌∷◌, ◌++◌, length, map, Option, Some, None, slice_get, refl, sym, ap, ◌∙◌, subst, arith, append-nil}
 use Rattle.gp_base.specs.Membership.{In}
-use Rattle.hg_ops.specs.GraphType.{GraphType, sum_type}
-use Rattle.hg_ops.specs.Op.{Op, Types, Module, FuncDefn, Const, Input, Output, Dfg, Cfg, DataflowBlock, ExitBlock, Conditional, Case, TailLoop, Tag, Call, CallIndirect, LoadConstant, LoadFunction, Ext, ControlPort, ins_of, outs_of, input_ports, output_ports, is_operation, is_dataflow_container, fires, is_effect, inner_ins, inner_outs}
-use Rattle.hg_graph.specs.Graph.{Graph, Port, Ports, Order, IsGraph, op_at, parent_at, children, firing_children}
-use Rattle.hg_graph.specs.Valid.{may_stand_in, stands_in_region, is_module, name_of, KeepsTags, is_output, is_input, JoinsPorts}
+use Rattle.hg_ops.specs.GraphType.{sum_type}
+use Rattle.hg_ops.specs.Op.{Op, Types, Module, FuncDefn, Const, Input, Output, Dfg, Cfg, DataflowBlock, ExitBlock, Conditional, Case, TailLoop, Tag, Call, CallIndirect, LoadConstant, LoadFunction, Ext, ControlPort, ins_of, output_ports, is_operation, is_dataflow_container, fires, is_effect}
+use Rattle.hg_graph.specs.Graph.{Graph, Port, Ports, op_at, parent_at, children, firing_children}
+use Rattle.hg_graph.specs.Valid.{may_stand_in, stands_in_region, is_module, name_of, KeepsTags, is_output, is_input}
 use Rattle.hg_laws.proofs.Named.{within}
 use Rattle.hg_laws.proofs.Children.{child_is, kid_is, get_in}
-use Rattle.hg_build.specs.Steps.{Step, nodes_of, PortsIn, StepsAt, known_after, is_leaf, Grows, Hole, Way}
+use Rattle.hg_build.specs.Steps.{Step, nodes_of, PortsIn, known_after, is_leaf, Grows, Hole, Way}
 use Rattle.hg_build.specs.Wired.{static_links, with_node, with_links, with_cases, value_links, order_links, after_node, after_constant, after_choice, after_ends, inner_place, after_leave, after_control, effect_prior, last_after, leave_prior, leave_last, adds_order}
-use Rattle.hg_build.specs.Built.{Sound, LastIn, OpenAt, Frame, Halfway, Base, ModuleAt, Below, BuiltAt, HolesRise, FillingAt, Flow, Fill}
+use Rattle.hg_build.specs.Built.{LastIn, OpenAt, Frame, Halfway, Base, Below, BuiltAt, FillingAt, Flow, Fill}
 use Rattle.hg_build.specs.Drawn.{Drawn, DrawnAt, dues, Flows, Typed, Blockish}
 use Rattle.hg_build.specs.declared.region.Place.{Place}
-use Rattle.hg_build.specs.declared.region.Outer.{Outer}
-use Rattle.hg_build.proofs.Real.{in_split, above_at, grows_self}
+use Rattle.hg_build.proofs.Real.{grows_self}
 use Rattle.hg_build.proofs.Moves.{steps_rise, grows_trans}
 use Rattle.hg_build.proofs.Grow.{count_node, op_old, op_new, parent_old, parent_new, op_links, parent_links, node_grows, links_grow}
-use Rattle.hg_build.proofs.Frames.{stands, Stands, rise_top, rise_get, in_end}
+use Rattle.hg_build.proofs.Frames.{stands, rise_top, rise_get, in_end}
 use Rattle.hg_build.proofs.Containers.{with_cases_more, prior_rises}
 use Rattle.hg_build.proofs.Adds.{OrderFits}
 use Rattle.hg_build.proofs.Joins.{with_none}

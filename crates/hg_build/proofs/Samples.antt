@@ -1,8 +1,8 @@
 -- A function that gives a number, from the clauses of the calls.
-use Rattle.std.proofs.Common.{◌≡◌, ℕ, ℤ, zero, suc, ◌<◌, true, false, None, List, [], ◌∷◌, ◌++◌, length, Option, Some, slice_get, slice_set, refl, sym, ap, ◌∙◌, subst, inl}
+use Rattle.std.proofs.Common.{◌≡◌, ℕ, ℤ, suc, ◌<◌, true, false, None, List, [], ◌∷◌, ◌++◌, length, slice_set, refl, sym, ap, ◌∙◌, subst, inl}
 use Rattle.hg_ops.specs.Op.{Types, Input, Output, DataflowBlock, ExitBlock}
 use Rattle.hg_graph.specs.Graph.{Graph, Port, op_at, taker}
-use Rattle.hg_build.specs.Steps.{Step, body, constant_act, choice_act, cfg_act, Hole, Way, IsBlockAt, IsExitAt, PortsIn}
+use Rattle.hg_build.specs.Steps.{Step, body, constant_act, choice_act, cfg_act, Way, IsBlockAt, IsExitAt, PortsIn}
 use Rattle.hg_build.specs.Built.{FunctionsBuilt, Base, Frame, Built, Filling, Choice, Flow, new_holes}
 use Rattle.hg_build.specs.Wired.{IsOpened, IsConstant, with_node, inner_place, inner_of, port_of, ports_of}
 use Rattle.hg_build.specs.Clauses.{OpenBuilt, ConstantBuilt, FinishBuilt, ChoiceBuilt, FlowBuilt, BlockBuilt, ControlBuilt, EnterBuilt, LeaveBuilt, InScope, step, full_hole, next_node}

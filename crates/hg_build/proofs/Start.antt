@@ -1,19 +1,17 @@
 -- The module alone, and functions that are added to it.
-use Rattle.std.proofs.Common.{◌≡◌, ◌≢◌, ◌⊎◌, inl, inr, ⊎_elim, ℕ, zero, suc, ◌+◌, ◌≤◌, ◌<◌, Bool, true, false, List, [], ◌∷◌, ◌++◌, length, Option, Some, None, slice_get, refl, sym, ap, ◌∙◌, subst, arith, le_refl}
-use Rattle.gp_base.specs.Membership.{In}
-use Rattle.hg_ops.specs.GraphType.{GraphType, is_linear}
-use Rattle.hg_ops.specs.Op.{Op, Types, Module, FuncDefn, Const, Input, Output, Dfg, Cfg, DataflowBlock, ExitBlock, Conditional, Case, TailLoop, Tag, Call, CallIndirect, LoadConstant, LoadFunction, Ext, ins_of, outs_of, is_effect, is_dataflow_container}
-use Rattle.hg_graph.specs.Graph.{Graph, Port, Link, Ports, Order, IsGraph, LinkIsWithin, op_at, parent_at, children}
-use Rattle.hg_graph.specs.Valid.{HasPlace, SuitsParent, LinksJoin, InputsAreFed, LinksStayInside, HasBoundary, KeepsBlocks, KeepsCases, KeepsSuccessors, KeepsName, KeepsTags, Edge, along_value, along_order, may_stand_in, is_block}
-use Rattle.hg_build.specs.Steps.{Act, Calls, Hole, HoleDoes, HolesDo, Grows, IsFunctionAt, OrdersRise, OrderRises}
+use Rattle.std.proofs.Common.{◌≡◌, ◌≢◌, ◌⊎◌, inl, inr, ⊎_elim, ℕ, zero, suc, ◌<◌, true, false, List, [], ◌∷◌, ◌++◌, length, Some, None, slice_get, refl, sym, ap, ◌∙◌, subst, arith, le_refl}
+use Rattle.hg_ops.specs.Op.{Op, Types, Module, FuncDefn, DataflowBlock, ExitBlock, ins_of, outs_of, is_effect, is_dataflow_container}
+use Rattle.hg_graph.specs.Graph.{Graph, IsGraph, op_at, parent_at, children}
+use Rattle.hg_graph.specs.Valid.{HasPlace, SuitsParent, InputsAreFed, KeepsBlocks, KeepsCases, KeepsSuccessors, KeepsName, KeepsTags, Edge, along_value, along_order, may_stand_in, is_block}
+use Rattle.hg_build.specs.Steps.{Hole, HoleDoes, HolesDo, Grows, IsFunctionAt}
 use Rattle.hg_build.specs.Wired.{with_node}
-use Rattle.hg_build.specs.Built.{FunctionsAt, FunctionsBuilt, HolesRise, Unfilled, Sound}
+use Rattle.hg_build.specs.Built.{FunctionsAt, Unfilled}
 use Rattle.hg_build.specs.Pending.{Pends}
 use Rattle.hg_build.specs.Drawn.{Drawn, StaticAt, Contains}
 use Rattle.hg_build.specs.Containing.{ContainsAt}
-use Rattle.hg_build.specs.Marks.{Owns, Marks, OrderedSoFar}
+use Rattle.hg_build.specs.Marks.{Marks}
 use Rattle.hg_build.specs.Start.{module_graph, Begun, IsNew, ModuleBegins}
-use Rattle.hg_build.proofs.Grow.{count_node, op_old, op_new, parent_old, parent_new, children_other, no_children, node_grows}
+use Rattle.hg_build.proofs.Grow.{count_node, op_old, op_new, children_other, no_children, node_grows}
 use Rattle.hg_build.proofs.Adds.{sound_node}
 use Rattle.hg_build.proofs.Frames.{functions_in}
 use Rattle.hg_build.proofs.Containers.{holes_push, do_push}
@@ -167,31 +165,31 @@ begun_function g functions empty name ins outs b new =
     let fits : NodeFits g kind 0 = record { parent = some; no_module = refl; suits = ap (λ o. may_stand_in o kind) b.module_at; fresh = λ x e. subst (IsNew g) (same name x e) new; tags = tt } in
     let dr : Drawn h [] [] = silent_drawn g kind 0 [] [] b.drawn fits (λ x i. absurd i) refl refl in
     record {
-  module_at = op_old g kind 0 0 some ∙ b.module_at;
-  unfilled = unfilled_push functions n b.unfilled;
-  built = record {
-    sound = sound_node g kind 0 some b.built.sound;
-    at = record {
-      are = functions_push h functions n (functions_in g h 0 m.top functions w m.rise t m.are) (record { name = name; ins = ins; outs = outs; is = at });
-      top = length h.nodes;
-      rise = holes_push functions 0 m.top n (length h.nodes) None m.rise t (omega arith);
-      topped = le_refl (length h.nodes);
-      started = le_refl (length h.nodes);
-      does = do_push h 0 (length h.nodes) (length h.nodes) n functions (unfilled_stay g kind m.top n (length h.nodes) (length h.nodes) functions b.unfilled m.does) (children_other g kind 0 n (λ e. omega arith) ∙ no_children g s n (le_refl n));
-    };
-  };
-  drawn = dr;
-  pends = (silent_pends g kind 0 refl).by s [] [] b.pends tt (takes_none []);
-  contains = record {
-    contains = function_contained g name ins outs empty s b.module_at dr b.contains;
-    within = λ x i. ⊎_elim (λ e. omega arith) (λ j. let l = b.contains.within x j in omega arith) i;
-    regions = λ x i. ⊎_elim (λ e. ap (λ k. is_dataflow_container (op_at h k)) e ∙ ap is_dataflow_container at) (λ j. ap is_dataflow_container (w.ops x (b.contains.within x j)) ∙ b.contains.regions x j) i;
-  };
-  ordered = record {
-    owns = λ x l e. ⊎_elim (λ o. b.ordered.owns x o (ap is_effect (sym (op_old g kind 0 x o)) ∙ e)) (λ r. ⊎_elim (λ q. clash (is_effect (op_at h x)) e (ap (λ k. is_effect (op_at h k)) q ∙ ap is_effect at)) (λ u. absurd (omega arith)) r) (split x n);
-    marks = no_marks h;
-  };
-}
+      module_at = op_old g kind 0 0 some ∙ b.module_at;
+      unfilled = unfilled_push functions n b.unfilled;
+      built = record {
+        sound = sound_node g kind 0 some b.built.sound;
+        at = record {
+          are = functions_push h functions n (functions_in g h 0 m.top functions w m.rise t m.are) (record { name = name; ins = ins; outs = outs; is = at });
+          top = length h.nodes;
+          rise = holes_push functions 0 m.top n (length h.nodes) None m.rise t (omega arith);
+          topped = le_refl (length h.nodes);
+          started = le_refl (length h.nodes);
+          does = do_push h 0 (length h.nodes) (length h.nodes) n functions (unfilled_stay g kind m.top n (length h.nodes) (length h.nodes) functions b.unfilled m.does) (children_other g kind 0 n (λ e. omega arith) ∙ no_children g s n (le_refl n));
+        };
+      };
+      drawn = dr;
+      pends = (silent_pends g kind 0 refl).by s [] [] b.pends tt (takes_none []);
+      contains = record {
+        contains = function_contained g name ins outs empty s b.module_at dr b.contains;
+        within = λ x i. ⊎_elim (λ e. omega arith) (λ j. let l = b.contains.within x j in omega arith) i;
+        regions = λ x i. ⊎_elim (λ e. ap (λ k. is_dataflow_container (op_at h k)) e ∙ ap is_dataflow_container at) (λ j. ap is_dataflow_container (w.ops x (b.contains.within x j)) ∙ b.contains.regions x j) i;
+      };
+      ordered = record {
+        owns = λ x l e. ⊎_elim (λ o. b.ordered.owns x o (ap is_effect (sym (op_old g kind 0 x o)) ∙ e)) (λ r. ⊎_elim (λ q. clash (is_effect (op_at h x)) e (ap (λ k. is_effect (op_at h k)) q ∙ ap is_effect at)) (λ u. absurd (omega arith)) r) (split x n);
+        marks = no_marks h;
+      };
+    }
   where
     same : (x y : List ℕ) → Some x ≡ Some y → x ≡ y
     same x y e = cc

@@ -1,10 +1,8 @@
 -- A graph in which nothing is due is valid.
-use Rattle.std.proofs.Common.{◌≡◌, ◌≢◌, ◌⊎◌, inl, inr, ⊎_elim, ℕ, zero, suc, ◌<◌, Bool, true, false, List, [], ◌∷◌, length, Option, Some, None, slice_get, refl, sym, ap, ◌∙◌, subst, arith}
-use Rattle.gp_base.specs.Membership.{In}
-use Rattle.hg_ops.specs.Op.{Op, Module, FuncDefn, Const, Input, Output, Dfg, Cfg, DataflowBlock, ExitBlock, Conditional, Case, TailLoop, Tag, Call, LoadConstant, LoadFunction, Ext, PortKind, output_ports}
-use Rattle.hg_graph.specs.Graph.{Graph, Port, Ports, Order, op_at, parent_at}
-use Rattle.hg_graph.specs.Valid.{IsValid, Rule, Keeps, Places, Children, Boundaries, Blocks, Cases, Links, Inputs, LinearOutputs, SameParent, NoCycle, Successors, StaticLinks, Callees, Names, VariantsAndTags, KeepsStatic, KeepsCallee, of_child, Path, edge, joined, Edge, along_value, along_order, is_output}
-use Rattle.hg_build.specs.Pending.{Pends}
+use Rattle.std.proofs.Common.{◌≡◌, ◌⊎◌, inl, inr, ⊎_elim, ℕ, ◌<◌, Bool, true, false, [], length, Some, slice_get, refl, sym, ap, ◌∙◌, arith}
+use Rattle.hg_ops.specs.Op.{Op, Output, Call, LoadConstant, LoadFunction, PortKind, output_ports}
+use Rattle.hg_graph.specs.Graph.{Graph, Ports, Order, op_at}
+use Rattle.hg_graph.specs.Valid.{Rule, Keeps, Places, Children, Boundaries, Blocks, Cases, Links, Inputs, LinearOutputs, SameParent, NoCycle, Successors, StaticLinks, Callees, Names, VariantsAndTags, KeepsStatic, KeepsCallee, of_child, Path, edge, joined, Edge, along_value, along_order, is_output}
 use Rattle.hg_build.specs.Drawn.{Drawn, StaticAt}
 use Rattle.hg_build.specs.Containing.{DrawnIsValid}
 use Rattle.hg_build.proofs.Linear.{none_pend}

@@ -1,11 +1,9 @@
 -- What the builder has made: the steps of the open region, and the regions that wait round it.
-use Rattle.std.specs.Prelude.{◌≡◌, ◌≢◌, ℕ, zero, suc, ◌+◌, ◌≤◌, ◌<◌, Bool, true, List, [], ◌∷◌, ◌++◌, length, Option, Some, None, map, ℤ, slice_get, slice_set}
+use Rattle.std.specs.Prelude.{◌≡◌, ℕ, suc, ◌≤◌, ◌<◌, Bool, true, List, [], ◌∷◌, ◌++◌, length, Option, Some, None, slice_get}
 use Rattle.gp_base.specs.Membership.{In}
-use Rattle.gp_base.specs.World.{World}
-use Rattle.hg_ops.specs.Op.{Op, Types, Conditional, Cfg, Call, ins_of, outs_of}
-use Rattle.hg_graph.specs.Graph.{Graph, Port, IsGraph, op_at, parent_at, children, firing_children, feeder}
-use Rattle.hg_graph.specs.Value.{Value}
-use Rattle.hg_build.specs.Steps.{Act, Calls, Step, body, nodes_of, PortsIn, FedBy, StepsAt, Laid, known_after, plain_act, constant_act, call_act, choice_act, cfg_act, is_plain, Hole, Way, HolesDo, CasesAt, BlocksAt, WaysAt, RegionAs, OrdersRise, IsFunctionAt}
+use Rattle.hg_ops.specs.Op.{Types, Conditional, Cfg, ins_of}
+use Rattle.hg_graph.specs.Graph.{Graph, Port, IsGraph, op_at, children, firing_children, feeder}
+use Rattle.hg_build.specs.Steps.{Act, Calls, Step, nodes_of, PortsIn, FedBy, StepsAt, Laid, known_after, choice_act, cfg_act, Hole, Way, HolesDo, CasesAt, BlocksAt, WaysAt, OrdersRise, IsFunctionAt}
 use Rattle.hg_build.specs.declared.region.Region.{Region}
 use Rattle.hg_build.specs.declared.region.Place.{Place}
 use Rattle.hg_build.specs.declared.region.Outer.{Outer}
@@ -81,7 +79,8 @@ pub record Halfway (g : Graph) (e start : ℕ) (fr : Frame) : Type 0 where
   pub firing : firing_children g fr.outer.place.container ≡ nodes_of fr.steps ++ fr.outer.node ∷ []
   pub above : fr.outer.place.container < fr.outer.place.input
   pub next : fr.outer.place.input < fr.outer.place.output
-  pub steps : StepsAt g (fr.outer.place.input ∷ []) (suc fr.outer.place.output) fr.steps fr.outer.node
+  pub steps : StepsAt g (fr.outer.place.input ∷ []) (suc fr.outer.place.output) fr.steps
+      fr.outer.node
   pub wide : length (ins_of (op_at g fr.outer.place.output)) ≡ fr.width
   pub unfed : (q : ℕ) → feeder g.links (record { node = fr.outer.place.output; index = q }) ≡ None
   pub last : LastIn fr.outer.place.last (nodes_of fr.steps ++ fr.outer.node ∷ [])
@@ -115,12 +114,15 @@ pub record ModuleAt (g : Graph) (e start : ℕ) (functions : List Hole) : Type 0
 
 -- the frames round a region whose container is c and whose Input is i
 abbrev pub Below : Graph → Base → ℕ → ℕ → List Frame → Type 0
-Below g base c i [] = (slice_get base.functions base.hole ≡ Some (record { node = c; act = None })) × ModuleAt g c i base.functions
+Below g base c i [] = (slice_get base.functions base.hole ≡ Some (record { node = c; act = None }))
+    × ModuleAt g c i base.functions
 Below g base c i (fr ∷ frs) =
-    (slice_get fr.holes fr.hole ≡ Some (record { node = c; act = None })) × Halfway g c i fr × Below g base fr.outer.place.container fr.outer.place.input frs
+    (slice_get fr.holes fr.hole ≡ Some (record { node = c; act = None })) × Halfway g c i fr × Below
+    g base fr.outer.place.container fr.outer.place.input frs
 
 -- What a region has built: in the frames, these steps.
-pub record BuiltAt (g : Graph) (base : Base) (p : Place) (width : ℕ) (frs : List Frame) (ss : List Step) : Type 0 where
+pub record BuiltAt (g : Graph) (base : Base) (p : Place) (width : ℕ) (frs : List Frame)
+    (ss : List Step) : Type 0 where
   pub sound : Sound g
   pub open_at : OpenAt g p width ss
   pub below : Below g base p.container p.input frs
@@ -140,13 +142,16 @@ frame_at p n chained width ss ins fill holes k = record {
 }
 
 -- A region whose last node has holes, of which none is open.
-pub record FillingAt (g : Graph) (base : Base) (p : Place) (width : ℕ) (frs : List Frame) (ss : List Step) (n : ℕ) (ins : List Port) (fill : Fill) (holes : List Hole) : Type 0 where
+pub record FillingAt (g : Graph) (base : Base) (p : Place) (width : ℕ) (frs : List Frame)
+    (ss : List Step) (n : ℕ) (ins : List Port) (fill : Fill) (holes : List Hole) : Type 0 where
   pub sound : Sound g
   pub halfway : Halfway g n (length g.nodes) (frame_at p n true width ss ins fill holes 0)
   pub below : Below g base p.container p.input frs
 
-abbrev pub Filling : Region → Base → ℕ → List Frame → List Step → ℕ → List Port → Fill → List Hole → Type 0
-Filling r base width frs ss n ins fill holes = FillingAt r.graph base r.place width frs ss n ins fill holes
+abbrev pub Filling : Region → Base → ℕ → List Frame → List Step → ℕ → List Port → Fill → List Hole
+    → Type 0
+Filling r base width frs ss n ins fill holes = FillingAt r.graph base r.place width frs ss n ins
+    fill holes
 
 -- holes that wait to be filled, from node k on
 abbrev pub new_holes : ℕ → List Types → List Hole

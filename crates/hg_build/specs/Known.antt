@@ -2,11 +2,11 @@
 use Rattle.std.specs.Prelude.{◌≡◌, ℕ, ℤ, suc, List, [], ◌∷◌, ◌++◌, length, slice_get, Option, Some}
 use Rattle.gp_base.specs.Membership.{In}
 use Rattle.hg_ops.specs.GraphType.{GraphType, is_linear}
-use Rattle.hg_ops.specs.Op.{Op, Types, Conditional, outs_of}
-use Rattle.hg_graph.specs.Graph.{Graph, Port, op_at}
+use Rattle.hg_ops.specs.Op.{Op, Types, outs_of}
+use Rattle.hg_graph.specs.Graph.{Port, op_at}
 use Rattle.hg_build.specs.Steps.{Act, Calls, Step, known_after}
 use Rattle.hg_build.specs.Wired.{ports_of, IsNode, IsConstant, IsChoice}
-use Rattle.hg_build.specs.Built.{Frame, Base, Built, Filling, Fill}
+use Rattle.hg_build.specs.Built.{Frame, Base, Built}
 use Rattle.hg_build.specs.Clauses.{InScope, next_node, step}
 use Rattle.hg_build.specs.Pending.{Fits}
 use Rattle.hg_build.specs.Drawn.{Typed}
@@ -34,20 +34,26 @@ pub record ServesCalls (r : Region) (ss : List Step) (hs : List Held) (ts : Type
 
 -- Known wires serve in each clause. They stay known as the region grows, and what a new node hands out is known.
 pub record WiresServe : Type 0 where
-  pub serve : (r : Region) (base : Base) (width : ℕ) (frs : List Frame) (ss : List Step) (hs : List Held) (ts : Types)
+  pub serve : (r : Region) (base : Base) (width : ℕ) (frs : List Frame) (ss : List Step)
+      (hs : List Held) (ts : Types)
       → Built r base width frs ss → AreWires r ss hs ts → ServesCalls r ss hs ts
   pub stay : (old new : Region) (base : Base) (width : ℕ) (frs : List Frame) (ss : List Step)
-      (kind : Op) (ps : List Port) (source : Option ℕ) (n : ℕ) (handed hs : List Held) (ts : Types) (act : Calls → Act)
+      (kind : Op) (ps : List Port) (source : Option ℕ) (n : ℕ) (handed hs : List Held) (ts : Types)
+      (act : Calls → Act)
       → Built old base width frs ss → IsNode old new kind ps source n handed → AreWires old ss hs ts
       → AreWires new (ss ++ step (next_node old) ps act ∷ []) hs ts
-  pub handed : (old new : Region) (ss : List Step) (kind : Op) (ps : List Port) (source : Option ℕ) (n : ℕ) (handed : List Held) (act : Calls → Act)
+  pub handed : (old new : Region) (ss : List Step) (kind : Op) (ps : List Port) (source : Option ℕ)
+      (n : ℕ) (handed : List Held) (act : Calls → Act)
       → IsNode old new kind ps source n handed
       → AreWires new (ss ++ step (next_node old) ps act ∷ []) handed (outs_of kind)
-  pub stay_constant : (old new : Region) (base : Base) (width : ℕ) (frs : List Frame) (ss : List Step) (value : ℤ) (out : Port)
+  pub stay_constant : (old new : Region) (base : Base) (width : ℕ) (frs : List Frame)
+      (ss : List Step) (value : ℤ) (out : Port)
       (hs : List Held) (ts : Types) (act : Calls → Act)
       → Built old base width frs ss → IsConstant old new value out → AreWires old ss hs ts
       → AreWires new (ss ++ step (suc (next_node old)) [] act ∷ []) hs ts
   pub stay_choice : (old new : Region) (base : Base) (width : ℕ) (frs : List Frame) (ss : List Step)
-      (rows : List Types) (ins outs : Types) (ps : List Port) (n : ℕ) (handed hs : List Held) (ts : Types) (act : Calls → Act)
-      → Built old base width frs ss → IsChoice old new rows ins outs ps n handed → AreWires old ss hs ts
+      (rows : List Types) (ins outs : Types) (ps : List Port) (n : ℕ) (handed hs : List Held)
+      (ts : Types) (act : Calls → Act)
+      → Built old base width frs ss → IsChoice old new rows ins outs ps n handed
+      → AreWires old ss hs ts
       → AreWires new (ss ++ step (next_node old) ps act ∷ []) hs ts

@@ -4,7 +4,7 @@ use Rattle.hg_ops.specs.Op.{Op, is_effect, is_dataflow_container}
 use Rattle.hg_graph.specs.Graph.{Graph, Port, IsGraph, op_at, parent_at, children}
 use Rattle.hg_build.specs.Steps.{Step, Hole}
 use Rattle.hg_build.specs.Built.{Fill, Frame, Base, Built, Filling}
-use Rattle.hg_build.specs.Clauses.{InScope, next_node, empty_hole}
+use Rattle.hg_build.specs.Clauses.{next_node, empty_hole}
 use Rattle.hg_build.specs.Marks.{OrderedAt, OrderedSoFar}
 use Rattle.hg_build.specs.declared.region.Region.{Region}
 use Rattle.hg_build.specs.declared.region.Outer.{Outer}
@@ -31,26 +31,32 @@ pub record QuietOrdered (old new : Region) : Type 0 where
 
 -- `block` and `control` neither
 pub record BlockOrdered (old new : Region) (cfg : ℕ) (kind : Op) : Type 0 where
-  pub by : (base : Base) (width : ℕ) (frs : List Frame) (ss : List Step) (ps : List Port) (fill : Fill) (holes : List Hole) (marked : List ℕ)
+  pub by : (base : Base) (width : ℕ) (frs : List Frame) (ss : List Step) (ps : List Port)
+      (fill : Fill) (holes : List Hole) (marked : List ℕ)
       → Filling old base width frs ss cfg ps fill holes → is_effect kind ≡ false
       → OrderedIn old frs marked → OrderedIn new frs marked
 
 pub record ControlOrdered (old new : Region) : Type 0 where
-  pub by : (base : Base) (width : ℕ) (frs : List Frame) (ss : List Step) (n : ℕ) (ps : List Port) (fill : Fill) (holes : List Hole) (marked : List ℕ)
+  pub by : (base : Base) (width : ℕ) (frs : List Frame) (ss : List Step) (n : ℕ) (ps : List Port)
+      (fill : Fill) (holes : List Hole) (marked : List ℕ)
       → Filling old base width frs ss n ps fill holes
       → OrderedIn old frs marked → OrderedIn new frs marked
 
 pub record EnterOrdered (old : Region) (c : ℕ) (outer : Outer) (inner : Region) : Type 0 where
-  pub by : (base : Base) (width : ℕ) (frs : List Frame) (ss : List Step) (ps : List Port) (fill : Fill) (holes : List Hole) (k : ℕ) (fr : Frame) (marked : List ℕ)
-      → Filling old base width frs ss outer.node ps fill holes → slice_get holes k ≡ Some (empty_hole c) → fr.outer ≡ outer
+  pub by : (base : Base) (width : ℕ) (frs : List Frame) (ss : List Step) (ps : List Port)
+      (fill : Fill) (holes : List Hole) (k : ℕ) (fr : Frame) (marked : List ℕ)
+      → Filling old base width frs ss outer.node ps fill holes
+      → slice_get holes k ≡ Some (empty_hole c) → fr.outer ≡ outer
       → OrderedIn old frs marked → OrderedIn inner (fr ∷ frs) marked
 
 -- `leave` marks the container, and the node that waited for it, where an effect node stands in it
 pub record LeaveOrdered (inner : Region) (outer : Outer) (new : Region) : Type 0 where
-  pub by : (base : Base) (width : ℕ) (fr : Frame) (frs : List Frame) (ss : List Step) (marked : List ℕ)
+  pub by : (base : Base) (width : ℕ) (fr : Frame) (frs : List Frame) (ss : List Step)
+      (marked : List ℕ)
       → fr.outer ≡ outer → Built inner base width (fr ∷ frs) ss
       → OrderedIn inner (fr ∷ frs) marked → (marked' : List ℕ) × OrderedIn new frs marked'
 
 pub record FinishOrdered (r : Region) (g : Graph) : Type 0 where
   pub by : (base : Base) (width : ℕ) (ss : List Step) (marked : List ℕ)
-      → Built r base width [] ss → OrderedIn r [] marked → (marked' : List ℕ) × OrderedSoFar g marked'
+      → Built r base width [] ss → OrderedIn r [] marked
+      → (marked' : List ℕ) × OrderedSoFar g marked'

@@ -33,5 +33,8 @@ IsNew g name = (m : ℕ) → m < length g.nodes → name_of (op_at g m) ≡ Some
 -- Building starts with the module alone, and functions with new names may be added to it.
 pub record ModuleBegins : Type 0 where
   pub alone : Begun module_graph [] []
-  pub function : (g : Graph) (functions : List Hole) (empty : List ℕ) (name : List ℕ) (ins outs : Types) → Begun g functions empty → IsNew g name
-      → Begun (with_node g (FuncDefn name ins outs) 0) (functions ++ empty_hole (length g.nodes) ∷ []) (length g.nodes ∷ empty)
+  pub function : (g : Graph) (functions : List Hole) (empty : List ℕ) (name : List ℕ)
+      (ins outs : Types)
+      → Begun g functions empty → IsNew g name
+      → Begun (with_node g (FuncDefn name ins outs) 0)
+      (functions ++ empty_hole (length g.nodes) ∷ []) (length g.nodes ∷ empty)

@@ -1,7 +1,7 @@
 -- A region as a list of steps, and when a graph does what the steps do.
-use Rattle.std.specs.Prelude.{◌≡◌, ◌≢◌, ◌≤◌, ◌<◌, ◌⊎◌, ℕ, ℤ, zero, suc, Bool, true, false, ◌==◌, ltb, if◌then◌else◌, List, [], ◌∷◌, ◌++◌, length, map, slice_get, Option, Some, None}
+use Rattle.std.specs.Prelude.{◌≡◌, ◌≢◌, ◌≤◌, ◌<◌, ℕ, ℤ, zero, suc, Bool, true, false, ◌==◌, ltb, if◌then◌else◌, List, [], ◌∷◌, ◌++◌, length, map, slice_get, Option, Some, None}
 use Rattle.gp_base.specs.Membership.{In}
-use Rattle.gp_base.specs.Run.{Run, Out, Returned, Stopped, Stop, TurnsUsed, OutcomesUsed, DivisionByZero, Stuck, ◌>>=◌, ret, stop, or_stuck}
+use Rattle.gp_base.specs.Run.{Run, Out, Returned, Stopped, TurnsUsed, OutcomesUsed, DivisionByZero, Stuck, ◌>>=◌, ret, stop, or_stuck}
 use Rattle.gp_base.specs.World.{World, take_turn}
 use Rattle.hg_ops.specs.Op.{Op, Types, FuncDefn, DataflowBlock, ExitBlock, Case, Tag, CallIndirect, Ext, ins_of, fires}
 use Rattle.hg_graph.specs.Graph.{Graph, Port, Order, op_at, parent_at, children, firing_children, feeder, taker, is_port}
@@ -32,12 +32,14 @@ unfoldable pub run_steps : Calls → List Step → List Fired → Run World (Lis
 run_steps calls [] fired w = Returned fired w
 run_steps calls (s ∷ ss) fired w =
     (or_stuck (values_at fired s.ins)
-    >>= (λ vs. s.act calls vs >>= (λ outs. run_steps calls ss (record { node = s.node; outs = outs } ∷ fired)))) w
+    >>= (λ vs. s.act calls vs
+    >>= (λ outs. run_steps calls ss (record { node = s.node; outs = outs } ∷ fired)))) w
 
 -- what a region does whose Input is i
 unfoldable pub body : ℕ → List Step → List Port → Calls → Act
 body i ss outs calls args =
-    run_steps calls ss (record { node = i; outs = args } ∷ []) >>= (λ fired. or_stuck (values_at fired outs))
+    run_steps calls ss (record { node = i; outs = args } ∷ []) >>=
+    (λ fired. or_stuck (values_at fired outs))
 
 abbrev pub nodes_of : List Step → List ℕ
 nodes_of ss = map (λ (s : Step). s.node) ss
@@ -65,8 +67,10 @@ pub record OrderRises (g : Graph) (a b : ℕ) : Type 0 where
 
 -- What runs the nodes of a graph does with each what its op says, and with functions what `calls` says.
 pub record Runner (g : Graph) (R : Enter (Unit {0})) (calls : Calls) : Type 0 where
-  pub unfolds : (outer : List Open) (n : ℕ) (vs : List Value) (s : State (Unit {0})) → R outer n vs s ≡ enter_op no_note g R R (op_at g n) outer n vs s
-  pub answers : (f : ℕ) (outer : List Open) (vs : List Value) (w : World) → Tracks (calls f vs w) (R outer f vs (quiet w))
+  pub unfolds : (outer : List Open) (n : ℕ) (vs : List Value) (s : State (Unit {0}))
+      → R outer n vs s ≡ enter_op no_note g R R (op_at g n) outer n vs s
+  pub answers : (f : ℕ) (outer : List Open) (vs : List Value) (w : World)
+      → Tracks (calls f vs w) (R outer f vs (quiet w))
   pub orders : (a b : ℕ) → In (Order a b) g.links → OrderRises g a b
 
 -- ---- growth
@@ -87,11 +91,16 @@ pub record SamePart (lo hi : ℕ) (g h : Graph) : Type 0 where
 
 -- Node n does this, in g and in every graph that has the part of g from lo to hi.
 pub record FiresAs (g : Graph) (lo hi n : ℕ) (act : Calls → Act) : Type 0 where
-  pub by : (h : Graph) → SamePart lo hi g h → (R : Enter (Unit {0})) (calls : Calls) → Runner h R calls → (outer : List Open) (vs : List Value) (w : World) → Tracks (act calls vs w) (fire no_note h R R outer n vs (quiet w))
+  pub by : (h : Graph) → SamePart lo hi g h → (R : Enter (Unit {0})) (calls : Calls)
+      → Runner h R calls → (outer : List Open) (vs : List Value) (w : World)
+      → Tracks (act calls vs w) (fire no_note h R R outer n vs (quiet w))
 
 -- The region of c does this, with what stands from lo to hi.
 pub record RegionAs (g : Graph) (c lo hi : ℕ) (act : Calls → Act) : Type 0 where
-  pub by : (h : Graph) → firing_children h c ≡ firing_children g c → SamePart lo hi g h → (R : Enter (Unit {0})) (calls : Calls) → Runner h R calls → (outer : List Open) (vs : List Value) (w : World) → Tracks (act calls vs w) (region no_note h (fire no_note h R R) outer c vs (quiet w))
+  pub by : (h : Graph) → firing_children h c ≡ firing_children g c → SamePart lo hi g h
+      → (R : Enter (Unit {0})) (calls : Calls) → Runner h R calls
+      → (outer : List Open) (vs : List Value) (w : World)
+      → Tracks (act calls vs w) (region no_note h (fire no_note h R R) outer c vs (quiet w))
 
 -- ---- a region that is laid as steps
 
@@ -102,7 +111,8 @@ PortsIn (p ∷ ps) known = In p.node known × PortsIn ps known
 -- the inputs of n, from q on, come from these ports
 abbrev pub FedBy : Graph → ℕ → ℕ → List Port → Type 0
 FedBy g n q [] = Unit {0}
-FedBy g n q (p ∷ ps) = (feeder g.links (record { node = n; index = q }) ≡ Some p) × FedBy g n (suc q) ps
+FedBy g n q (p ∷ ps) = (feeder g.links (record { node = n; index = q }) ≡ Some p) × FedBy g n
+    (suc q) ps
 
 -- the node of a step stands from lo to hi, and takes its inputs from nodes that are known
 pub record StepAt (g : Graph) (known : List ℕ) (lo hi : ℕ) (s : Step) : Type 0 where
@@ -156,7 +166,8 @@ found_act None calls vs = stop Stuck
 found_act (Some f) calls vs = call_act f calls vs
 
 -- the name that the first value is, and the other values
-abbrev pub by_name : List Value → (List ℕ → List Value → Run World (List Value)) → Run World (List Value)
+abbrev pub by_name : List Value → (List ℕ → List Value → Run World (List Value))
+    → Run World (List Value)
 by_name (Function name ∷ others) go = go name others
 by_name _ go = stop Stuck
 
@@ -187,7 +198,8 @@ hole_act None calls vs = stop Stuck
 hole_act (Some hole) calls vs = filled hole.act calls vs
 
 -- the variant of the first value, with the values of its row followed by the others
-abbrev pub by_variant : List Value → (ℕ → List Value → Run World (List Value)) → Run World (List Value)
+abbrev pub by_variant : List Value → (ℕ → List Value → Run World (List Value))
+    → Run World (List Value)
 by_variant (Variant k vs ∷ others) go = go k (values vs ++ others)
 by_variant _ go = stop Stuck
 
@@ -213,24 +225,29 @@ way_at (way ∷ ways) from = if is_port way.from from then Some way else way_at 
 abbrev pub go_way : (inside again : ℕ → Act) → ℕ → Option Way → Act
 go_way inside again n None vs = stop Stuck
 go_way inside again n (Some way) vs =
-    if way.leaves then ret vs else (if ltb n way.to then inside way.to vs else (take_turn >>= (λ _. again way.to vs)))
+    if way.leaves then ret vs else
+    (if ltb n way.to then inside way.to vs else (take_turn >>= (λ _. again way.to vs)))
 
 -- `count` blocks at most until the next turn
 abbrev pub forward : List Hole → List Way → Calls → (again : ℕ → Act) → (count : ℕ) → ℕ → Act
 forward blocks ways calls again zero n vs = stop Stuck
 forward blocks ways calls again (suc count) n vs =
     hole_act (hole_at blocks n) calls vs
-    >>= (λ us. by_variant us (λ k xs. go_way (forward blocks ways calls again count) again n (way_at ways (record { node = n; index = k })) xs))
+    >>= (λ us. by_variant us (λ k xs.
+    go_way (forward blocks ways calls again count) again n
+    (way_at ways (record { node = n; index = k })) xs))
 
 -- fewer than `turns` turns
 abbrev pub walk : List Hole → List Way → Calls → (turns : ℕ) → ℕ → Act
 walk blocks ways calls zero n vs = stop Stuck
-walk blocks ways calls (suc turns) n vs = forward blocks ways calls (walk blocks ways calls turns) (length blocks) n vs
+walk blocks ways calls (suc turns) n vs = forward blocks ways calls (walk blocks ways calls turns)
+    (length blocks) n vs
 
 -- a CFG walks from its first block until it leaves
 abbrev pub cfg_act : List Hole → List Way → Calls → Act
 cfg_act [] ways calls vs w = Stopped Stuck w
-cfg_act (entry ∷ blocks) ways calls vs w = walk (entry ∷ blocks) ways calls (suc w.turns) entry.node vs w
+cfg_act (entry ∷ blocks) ways calls vs w = walk (entry ∷ blocks) ways calls (suc w.turns) entry.node
+    vs w
 
 -- an op that has neither a region nor a static input, and fires
 abbrev pub is_plain : Op → Bool
@@ -253,7 +270,8 @@ HoleDoes g top end n (Some act) = RegionAs g n top end act
 -- so it is with all holes but the one at node e
 abbrev pub HolesDo : Graph → ℕ → ℕ → ℕ → List Hole → Type 0
 HolesDo g e top end [] = Unit {0}
-HolesDo g e top end (hole ∷ holes) = (hole.node ≢ e → HoleDoes g top end hole.node hole.act) × HolesDo g e top end holes
+HolesDo g e top end (hole ∷ holes) = (hole.node ≢ e → HoleDoes g top end hole.node hole.act) ×
+    HolesDo g e top end holes
 
 -- the holes stand between a node and `top`
 abbrev pub HolesWithin : ℕ → ℕ → List Hole → Type 0
@@ -305,7 +323,8 @@ WaysAt g (way ∷ ways) = IsWayAt g way × WaysAt g ways
 -- what functions do that run with fewer than `turns` calls inside one another
 abbrev pub function_calls : List Hole → (turns : ℕ) → Calls
 function_calls functions zero f vs = stop Stuck
-function_calls functions (suc turns) f vs = hole_act (hole_at functions f) (function_calls functions turns) vs
+function_calls functions (suc turns) f vs = hole_act (hole_at functions f)
+    (function_calls functions turns) vs
 
 -- The second run ends as the first, which isn't stuck.
 abbrev pub EndsAs : {A : Type 0} → Out World A → Out World A → Type 0
@@ -328,7 +347,8 @@ FunctionDoes g n (Some act) = (lo : ℕ) × (end : ℕ) × RegionAs g n lo end a
 -- each of the functions does what it says
 abbrev pub FunctionsDo : Graph → List Hole → Type 0
 FunctionsDo g [] = Unit {0}
-FunctionsDo g (hole ∷ holes) = IsFunctionAt g hole.node × FunctionDoes g hole.node hole.act × FunctionsDo g holes
+FunctionsDo g (hole ∷ holes) = IsFunctionAt g hole.node × FunctionDoes g hole.node hole.act ×
+    FunctionsDo g holes
 
 abbrev pub OrdersRise : Graph → Type 0
 OrdersRise g = (a b : ℕ) → In (Order a b) g.links → OrderRises g a b
@@ -336,5 +356,6 @@ OrdersRise g = (a b : ℕ) → In (Order a b) g.links → OrderRises g a b
 -- A valid graph runs as its functions say, in each world.
 abbrev pub GraphsRunAsBuilt : Type 0
 GraphsRunAsBuilt =
-    (g : Graph) → IsValid g → OrdersRise g → (functions : List Hole) → FunctionsDo g functions → (turns f : ℕ) (arguments : List Value) (w : World)
+    (g : Graph) → IsValid g → OrdersRise g → (functions : List Hole) → FunctionsDo g functions
+    → (turns f : ℕ) (arguments : List Value) (w : World)
     → EndsAs (function_calls functions turns f arguments w) (graph_run g f arguments w [])

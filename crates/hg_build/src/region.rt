@@ -53,7 +53,8 @@ impl Region {
         items: &[Held],
         source: Option<u64>,
     ) -> Result<(u64, Vec<Held>), BuildFault>
-        ensures { IfOk result (λ r. IsNode self.old self.new (op_view op) (ports_of items.now) source r.0 r.1.items) }
+        ensures { IfOk result (λ r. IsNode self.old self.new (op_view op) (ports_of items.now)
+            source r.0 r.1.items) }
     {
         let effect = is_effect(&op);
         let (_, types) = signature(self.alloc, &op)?;
@@ -110,7 +111,8 @@ impl Region {
 impl Region {
     // Adds a number.
     fn add_constant(&mut self, value: i64) -> Result<Wire, BuildFault>
-        ensures { IfOk result (λ w. IsConstant self.old self.new value (record { node = w.node; index = w.index })) }
+        ensures { IfOk result (λ w. IsConstant self.old self.new value
+            (record { node = w.node; index = w.index })) }
     {
         let constant = add(
             &mut self.graph,
@@ -129,7 +131,8 @@ impl Region {
         outs: Row,
         items: &[Held],
     ) -> Result<(u64, Vec<Held>), BuildFault>
-        ensures { IfOk result (λ r. IsChoice self.old self.new rows ins outs (ports_of items.now) r.0 r.1.items) }
+        ensures { IfOk result (λ r. IsChoice self.old self.new rows ins outs (ports_of items.now)
+            r.0 r.1.items) }
     {
         let alloc = self.alloc;
         let (own_rows, own_ins, own_outs) = (
@@ -208,7 +211,8 @@ impl Region {
     ) -> Result<(Region, Wires), BuildFault>
         ensures exact { IfOk result (λ r. IsOpened graph container.0 ins outs r.0 r.1.items.items) }
         ensures built { IfOk result (λ r. OpenBuilt graph container.0 (length outs) r.0) }
-        ensures pending { IfOk result (λ r. container.0 < length graph.nodes → PendsAfter graph r.0.graph [] r.1.items.items) }
+        ensures pending { IfOk result (λ r. container.0 < length graph.nodes
+            → PendsAfter graph r.0.graph [] r.1.items.items) }
         ensures kept { IfOk result (λ r. OpenKept graph container.0 r.0) }
         ensures contained { IfOk result (λ r. OpenContains graph container.0 ins outs r.0) }
         ensures ordered { IfOk result (λ r. OpenOrdered graph container.0 r.0) }
@@ -219,11 +223,16 @@ impl Region {
 
     /// Adds a node without children, its value links and, after an effect node, its order link.
     pub fn op(&mut self, op: OpKind, ins: Wires) -> Result<Wires, BuildFault>
-        ensures exact { IfOk result (λ ws. IsNode self.old self.new (op_view op) (ports_of ins.items.items) None (length self.old.graph.nodes) ws.items.items) }
-        ensures built { OnOk result (OpBuilt self.old self.new (op_view op) (ports_of ins.items.items)) }
-        ensures pending { IfOk result (λ ws. PendsAfter self.old.graph self.new.graph ins.items.items ws.items.items) }
-        ensures kept { OnOk result (OpKept self.old self.new (op_view op) (ports_of ins.items.items)) }
-        ensures contained { OnOk result (OpContains self.old self.new (op_view op) (ports_of ins.items.items)) }
+        ensures exact { IfOk result (λ ws. IsNode self.old self.new (op_view op)
+            (ports_of ins.items.items) None (length self.old.graph.nodes) ws.items.items) }
+        ensures built { OnOk result (OpBuilt self.old self.new (op_view op)
+            (ports_of ins.items.items)) }
+        ensures pending { IfOk result (λ ws. PendsAfter self.old.graph self.new.graph
+            ins.items.items ws.items.items) }
+        ensures kept { OnOk result (OpKept self.old self.new (op_view op)
+            (ports_of ins.items.items)) }
+        ensures contained { OnOk result (OpContains self.old self.new (op_view op)
+            (ports_of ins.items.items)) }
         ensures ordered { OnOk result (NodeOrdered self.old self.new (op_view op)) }
     {
         let Wires { items } = ins;
@@ -233,9 +242,11 @@ impl Region {
 
     /// Adds a number: a `Const`, its `LoadConstant` and the static link between them.
     pub fn constant(&mut self, value: i64) -> Result<Wire, BuildFault>
-        ensures exact { IfOk result (λ w. IsConstant self.old self.new value (record { node = w.node; index = w.index })) }
+        ensures exact { IfOk result (λ w. IsConstant self.old self.new value
+            (record { node = w.node; index = w.index })) }
         ensures built { OnOk result (ConstantBuilt self.old self.new value) }
-        ensures pending { IfOk result (λ w. self.old.place.container < length self.old.graph.nodes → PendsAfter self.old.graph self.new.graph [] (plain_held w ∷ [])) }
+        ensures pending { IfOk result (λ w. self.old.place.container < length self.old.graph.nodes
+            → PendsAfter self.old.graph self.new.graph [] (plain_held w ∷ [])) }
         ensures kept { OnOk result (ConstantKept self.old self.new) }
         ensures contained { OnOk result (ConstantContains self.old self.new) }
         ensures ordered { OnOk result (QuietOrdered self.old self.new) }
@@ -246,12 +257,20 @@ impl Region {
 
     /// Adds a call of a function of the graph, its value links, its static link and its order link.
     pub fn call(&mut self, function: NodeId, ins: Wires) -> Result<Wires, BuildFault>
-        ensures exact { IfOk result (λ ws. IsNode self.old self.new (call_of (op_at self.old.graph function.0)) (ports_of ins.items.items) (Some function.0) (length self.old.graph.nodes) ws.items.items) }
-        ensures built { OnOk result (CallBuilt self.old self.new function.0 (ins_of (call_of (op_at self.old.graph function.0))) (ports_of ins.items.items)) }
-        ensures pending { IfOk result (λ ws. function.0 < length self.old.graph.nodes → outs_of (op_at self.old.graph function.0) ≡ [] → PendsAfter self.old.graph self.new.graph ins.items.items ws.items.items) }
-        ensures kept { OnOk result (CallKept self.old self.new function.0 (ports_of ins.items.items)) }
-        ensures contained { OnOk result (CallContains self.old self.new function.0 (ports_of ins.items.items)) }
-        ensures ordered { OnOk result (NodeOrdered self.old self.new (call_of (op_at self.old.graph function.0))) }
+        ensures exact { IfOk result (λ ws. IsNode self.old self.new
+            (call_of (op_at self.old.graph function.0)) (ports_of ins.items.items) (Some function.0)
+            (length self.old.graph.nodes) ws.items.items) }
+        ensures built { OnOk result (CallBuilt self.old self.new function.0
+            (ins_of (call_of (op_at self.old.graph function.0))) (ports_of ins.items.items)) }
+        ensures pending { IfOk result (λ ws. function.0 < length self.old.graph.nodes
+            → outs_of (op_at self.old.graph function.0) ≡ []
+            → PendsAfter self.old.graph self.new.graph ins.items.items ws.items.items) }
+        ensures kept { OnOk result (CallKept self.old self.new function.0
+            (ports_of ins.items.items)) }
+        ensures contained { OnOk result (CallContains self.old self.new function.0
+            (ports_of ins.items.items)) }
+        ensures ordered { OnOk result (NodeOrdered self.old self.new
+            (call_of (op_at self.old.graph function.0))) }
     {
         let Wires { items } = ins;
         let outs = self.add_call(function.0, items.as_slice())?;
@@ -260,12 +279,17 @@ impl Region {
 
     /// Adds the load of a function of the graph as a value, with its static link.
     pub fn load_function(&mut self, function: NodeId) -> Result<Wire, BuildFault>
-        ensures exact { IfOk result (λ w. IsNode self.old self.new (load_of (op_at self.old.graph function.0)) [] (Some function.0) w.node (plain_held w ∷ [])) }
+        ensures exact { IfOk result (λ w. IsNode self.old self.new
+            (load_of (op_at self.old.graph function.0)) [] (Some function.0) w.node
+            (plain_held w ∷ [])) }
         ensures built { OnOk result (LoadBuilt self.old self.new function.0) }
-        ensures pending { IfOk result (λ w. function.0 < length self.old.graph.nodes → outs_of (op_at self.old.graph function.0) ≡ [] → PendsAfter self.old.graph self.new.graph [] (plain_held w ∷ [])) }
+        ensures pending { IfOk result (λ w. function.0 < length self.old.graph.nodes
+            → outs_of (op_at self.old.graph function.0) ≡ []
+            → PendsAfter self.old.graph self.new.graph [] (plain_held w ∷ [])) }
         ensures kept { OnOk result (LoadKept self.old self.new function.0) }
         ensures contained { OnOk result (LoadContains self.old self.new function.0) }
-        ensures ordered { OnOk result (NodeOrdered self.old self.new (load_of (op_at self.old.graph function.0))) }
+        ensures ordered { OnOk result (NodeOrdered self.old self.new
+            (load_of (op_at self.old.graph function.0))) }
     {
         let (node, _) = self.add_load(function.0)?;
         Ok(Wire { node, index: 0 })
@@ -279,11 +303,16 @@ impl Region {
         outs: Row,
         wires: Wires,
     ) -> Result<(NodeId, Wires), BuildFault>
-        ensures exact { IfOk result (λ r. IsChoice self.old self.new rows ins outs (ports_of wires.items.items) r.0.0 r.1.items.items) }
-        ensures built { IfOk result (λ r. ChoiceBuilt self.old self.new rows ins (ports_of wires.items.items) r.0.0) }
-        ensures pending { IfOk result (λ r. self.old.place.container < length self.old.graph.nodes → PendsAfter self.old.graph self.new.graph wires.items.items r.1.items.items) }
-        ensures kept { OnOk result (ChoiceKept self.old self.new rows ins (ports_of wires.items.items)) }
-        ensures contained { OnOk result (ChoiceContains self.old self.new rows ins (ports_of wires.items.items)) }
+        ensures exact { IfOk result (λ r. IsChoice self.old self.new rows ins outs
+            (ports_of wires.items.items) r.0.0 r.1.items.items) }
+        ensures built { IfOk result (λ r. ChoiceBuilt self.old self.new rows ins
+            (ports_of wires.items.items) r.0.0) }
+        ensures pending { IfOk result (λ r. self.old.place.container < length self.old.graph.nodes
+            → PendsAfter self.old.graph self.new.graph wires.items.items r.1.items.items) }
+        ensures kept { OnOk result (ChoiceKept self.old self.new rows ins
+            (ports_of wires.items.items)) }
+        ensures contained { OnOk result (ChoiceContains self.old self.new rows ins
+            (ports_of wires.items.items)) }
         ensures ordered { OnOk result (QuietOrdered self.old self.new) }
     {
         let Wires { items } = wires;
@@ -301,20 +330,26 @@ impl Region {
     /// The `k`-th case of a `Conditional`; `None` exactly where it has no such case.
     pub fn case(&self, conditional: NodeId, k: u64) -> Option<NodeId>
         requires { conditional.0 < length self.now.graph.nodes }
-        ensures { option_map number_of result ≡ slice_get (children self.now.graph conditional.0) k }
+        ensures { option_map number_of result ≡ slice_get (children self.now.graph conditional.0)
+            k }
     {
         self.graph.child(conditional, k)
     }
 
     /// Adds a `CFG` without children, its value links and its order link.
     pub fn cfg(&mut self, ins: Row, outs: Row, wires: Wires) -> Result<(NodeId, Wires), BuildFault>
-        ensures exact { IfOk result (λ r. IsNode self.old self.new (Cfg ins outs) (ports_of wires.items.items) None r.0.0 r.1.items.items) }
-        ensures built { IfOk result (λ r. FlowBuilt self.old self.new ins (ports_of wires.items.items) r.0.0) }
-        ensures pending { IfOk result (λ r. PendsAfter self.old.graph self.new.graph wires.items.items r.1.items.items) }
+        ensures exact { IfOk result (λ r. IsNode self.old self.new (Cfg ins outs)
+            (ports_of wires.items.items) None r.0.0 r.1.items.items) }
+        ensures built { IfOk result (λ r. FlowBuilt self.old self.new ins
+            (ports_of wires.items.items) r.0.0) }
+        ensures pending { IfOk result (λ r. PendsAfter self.old.graph self.new.graph
+            wires.items.items r.1.items.items) }
         ensures kept { OnOk result (FlowKept self.old self.new ins (ports_of wires.items.items)) }
-        ensures contained { OnOk result (FlowContains self.old self.new ins (ports_of wires.items.items)) }
+        ensures contained { OnOk result (FlowContains self.old self.new ins
+            (ports_of wires.items.items)) }
         ensures ordered { OnOk result (NodeOrdered self.old self.new (Cfg ins outs)) }
-        ensures charted { IfOk result (λ r. FlowCharted self.old self.new ins (ports_of wires.items.items) r.0.0) }
+        ensures charted { IfOk result (λ r. FlowCharted self.old self.new ins
+            (ports_of wires.items.items) r.0.0) }
     {
         let Wires { items } = wires;
         let (node, outs) = self.node(OpKind::Cfg { ins, outs }, items.as_slice(), None)?;
@@ -325,7 +360,8 @@ impl Region {
     pub fn block(&mut self, cfg: NodeId, op: OpKind) -> Result<NodeId, BuildFault>
         ensures exact { IfOk result (λ n. IsBlock self.old self.new cfg.0 (op_view op) n.0) }
         ensures built { IfOk result (λ n. BlockBuilt self.old self.new cfg.0 (op_view op) n.0) }
-        ensures pending { OnOk result (outs_of (op_view op) ≡ [] → PendsAfter self.old.graph self.new.graph [] []) }
+        ensures pending { OnOk result (outs_of (op_view op) ≡ []
+            → PendsAfter self.old.graph self.new.graph [] []) }
         ensures kept { OnOk result (BlockKept self.old self.new cfg.0 (op_view op)) }
         ensures contained { OnOk result (BlockContains self.old self.new cfg.0 (op_view op)) }
         ensures ordered { OnOk result (BlockOrdered self.old self.new cfg.0 (op_view op)) }
@@ -339,7 +375,8 @@ impl Region {
     pub fn control(&mut self, from: Port, to: NodeId) -> Result<(), BuildFault>
         ensures exact { OnOk result (IsControl self.old self.new (port_view from) to.0) }
         ensures built { OnOk result (ControlBuilt self.old self.new (port_view from) to.0) }
-        ensures pending { OnOk result (outs_of (op_at self.old.graph from.node.0) ≡ [] → PendsAfter self.old.graph self.new.graph [] []) }
+        ensures pending { OnOk result (outs_of (op_at self.old.graph from.node.0) ≡ []
+            → PendsAfter self.old.graph self.new.graph [] []) }
         ensures kept { OnOk result (ControlKept self.old self.new (port_view from) to.0) }
         ensures contained { OnOk result (ControlContains self.old self.new (port_view from)) }
         ensures ordered { OnOk result (ControlOrdered self.old self.new) }
@@ -353,7 +390,8 @@ impl Region {
     pub fn enter(self, container: NodeId) -> Result<(Outer, Region, Wires), BuildFault>
         ensures exact { IfOk result (λ r. IsEntered self container.0 r.0 r.1 r.2.items.items) }
         ensures built { IfOk result (λ r. EnterBuilt self container.0 r.0 r.1) }
-        ensures pending { IfOk result (λ r. container.0 < length self.graph.nodes → PendsAfter self.graph r.1.graph [] r.2.items.items) }
+        ensures pending { IfOk result (λ r. container.0 < length self.graph.nodes
+            → PendsAfter self.graph r.1.graph [] r.2.items.items) }
         ensures kept { IfOk result (λ r. EnterKept self container.0 r.0 r.1) }
         ensures contained { IfOk result (λ r. EnterContains self container.0 r.0 r.1) }
         ensures ordered { IfOk result (λ r. EnterOrdered self container.0 r.0 r.1) }
@@ -394,7 +432,9 @@ impl Region {
 impl Region {
     // Adds a call with the function's types.
     fn add_call(&mut self, function: u64, items: &[Held]) -> Result<Vec<Held>, BuildFault>
-        ensures { IfOk result (λ v. IsNode self.old self.new (call_of (op_at self.old.graph function)) (ports_of items.now) (Some function) (length self.old.graph.nodes) v.items) }
+        ensures { IfOk result (λ v. IsNode self.old self.new
+            (call_of (op_at self.old.graph function)) (ports_of items.now) (Some function)
+            (length self.old.graph.nodes) v.items) }
     {
         if function >= self.graph.node_count() {
             return Err(BuildFault::Memory);
@@ -416,7 +456,8 @@ impl Region {
 
     // Adds the load of a function, with the function's types.
     fn add_load(&mut self, function: u64) -> Result<(u64, Vec<Held>), BuildFault>
-        ensures { IfOk result (λ r. IsNode self.old self.new (load_of (op_at self.old.graph function)) [] (Some function) r.0 r.1.items) }
+        ensures { IfOk result (λ r. IsNode self.old self.new
+            (load_of (op_at self.old.graph function)) [] (Some function) r.0 r.1.items) }
     {
         if function >= self.graph.node_count() {
             return Err(BuildFault::Memory);

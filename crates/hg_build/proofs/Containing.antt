@@ -13,7 +13,7 @@ use Rattle.hg_build.specs.Built.{Fill, Choice, Flow, Frame, Base, BuiltAt, Filli
 use Rattle.hg_build.specs.Clauses.{next_node}
 use Rattle.hg_build.specs.Pending.{times}
 use Rattle.hg_build.specs.Drawn.{DrawnAt, Typed, Contains}
-use Rattle.hg_build.specs.Containing.{ContainsAt, TakenOff, with_cases_of, OpenContains, EnterContains, OpContains, ConstantContains, CallContains, LoadContains, ChoiceContains, FlowContains, BlockContains, ControlContains, LeaveContains, FinishContains, Charted, FlowCharted, BlockCharted, ControlCharted, WholeIsReady, target_of, froms, WaysFrom}
+use Rattle.hg_build.specs.Containing.{ContainsAt, TakenOff, with_cases_of, OpenContains, EnterContains, OpContains, ConstantContains, CallContains, LoadContains, ChoiceContains, FlowContains, BlockContains, ControlContains, LeaveContains, FinishContains, Charted, FlowCharted, BlockCharted, ControlCharted, WholeIsReady, OutputIsThere, target_of, froms, WaysFrom}
 use Rattle.hg_build.specs.declared.region.Region.{Region}
 use Rattle.hg_build.specs.declared.region.Place.{Place}
 use Rattle.hg_build.specs.declared.region.Outer.{Outer}
@@ -448,3 +448,15 @@ whole_is_ready g n kids ways ins outs empty unready c w d = record {
           fits = x.fits;
         }
     leads m i _ e = tt
+
+pub output_is_there : OutputIsThere
+output_is_there r base width frs ss empty unready b dr d =
+    let g = r.graph in let p = r.place in
+    let z = stands g p width ss b.open_at in
+    let z0 = z.above in let z1 = z.next in let z2 = z.within in
+    let x = d.contains.bounds p.container (omega arith) (flows_head g p frs dr.flows) (not_empty g p.container p.input empty unready b.open_at.laid.input d.contains) in
+    let same : x.output ≡ p.output = some_same x.output p.output (ap (λ ks. slice_get ks 1) (sym x.are_children) ∙ b.open_at.laid.output) in
+    ap (op_at g) (sym same) ∙ x.output_is
+  where
+    some_same : (m n : ℕ) → Some m ≡ Some n → m ≡ n
+    some_same m n e = cc

@@ -2,7 +2,7 @@
 use Rattle.std.specs.Prelude.{◌≡◌, ◌≢◌, ◌⊎◌, ℕ, suc, ◌<◌, Bool, true, false, List, [], ◌∷◌, ◌++◌, length, slice_get, map, Option, Some, None}
 use Rattle.gp_base.specs.Membership.{In}
 use Rattle.hg_ops.specs.GraphType.{sum_type}
-use Rattle.hg_ops.specs.Op.{Op, Types, FuncDefn, Cfg, DataflowBlock, ExitBlock, ins_of, inner_ins, inner_outs, is_dataflow_container}
+use Rattle.hg_ops.specs.Op.{Op, Types, FuncDefn, Output, Cfg, DataflowBlock, ExitBlock, ins_of, inner_ins, inner_outs, is_dataflow_container}
 use Rattle.hg_graph.specs.Graph.{Graph, Port, IsGraph, op_at, parent_at, children, links_from, taker}
 use Rattle.hg_graph.specs.Valid.{IsValid, is_exit, is_block, block_ins}
 use Rattle.hg_build.specs.Steps.{Step, is_leaf, Hole, Way, way_at}
@@ -175,6 +175,13 @@ pub record IsWhole (g : Graph) (n : ℕ) (kids : List ℕ) (ways : List Way) (in
     pub leads : (m : ℕ) (ins' : Types) (rows' : List Types) (others' : Types) → In m kids
         → op_at g m ≡ DataflowBlock ins' rows' others'
         → (k : ℕ) (row : Types) → slice_get rows' k ≡ Some row → LeadsOn g ways m k row others'
+
+-- The Output of an open region has the types of its container.
+abbrev pub OutputIsThere : Type 0
+OutputIsThere =
+    (r : Region) (base : Base) (width : ℕ) (frs : List Frame) (ss : List Step) (empty unready : List ℕ)
+    → Built r base width frs ss → DrawnIn r frs → ContainsAt r.graph empty unready
+    → op_at r.graph r.place.output ≡ Output (inner_outs (op_at r.graph r.place.container))
 
 -- A graph in which nothing is due, no linear output is pending, and no container is empty or unready is valid.
 abbrev pub DrawnIsValid : Type 0

@@ -4,6 +4,7 @@ ghost use Rattle.std.specs.Prelude.{◌≡◌, IfOk};
 
 use crate::sequence::Sequence;
 use std::alloc::{AllocError, Global};
+use std::convert::AsStr;
 use std::marker::Model;
 use std::rc::RcStr;
 
@@ -53,5 +54,13 @@ impl Name {
         ensures { result.now ≡ self.now }
     {
         self.text.as_str()
+    }
+}
+
+impl AsStr for Name {
+    ghost text = { λ name. name };
+
+    fn as_str(&self) -> &str {
+        Name::as_str(self)
     }
 }

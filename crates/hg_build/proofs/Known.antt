@@ -1,20 +1,20 @@
 -- Wires that a region knows.
-use Rattle.std.proofs.Common.{◌≡◌, inl, inr, ℕ, suc, List, [], ◌∷◌, ◌++◌, length, Some, None, slice_get, refl, sym, ap, ◌∙◌, subst}
+use Rattle.std.proofs.Common.{◌≡◌, inl, inr, ℕ, ℤ, suc, List, [], ◌∷◌, ◌++◌, length, Option, Some, None, slice_get, refl, sym, ap, ◌∙◌, subst}
 use Rattle.gp_base.specs.Membership.{In}
 use Rattle.hg_ops.specs.GraphType.{GraphType}
 use Rattle.hg_ops.specs.Op.{Op, Types, Const, Conditional, LoadConstant, outs_of}
-use Rattle.hg_graph.specs.Graph.{op_at}
+use Rattle.hg_graph.specs.Graph.{Graph, Port, op_at}
 use Rattle.hg_build.specs.Steps.{Step, known_after, Grows}
-use Rattle.hg_build.specs.Wired.{out_held, with_node, after_node, after_constant, after_choice}
+use Rattle.hg_build.specs.Wired.{out_held, with_node, with_links, value_links, order_links, after_node, after_constant, after_choice, after_leave}
 use Rattle.hg_build.specs.Built.{Frame, Base, Built}
 use Rattle.hg_build.specs.Clauses.{next_node, step}
-use Rattle.hg_build.specs.Known.{AreWires, ServesCalls, WiresServe}
+use Rattle.hg_build.specs.Known.{AreWires, ServesCalls, WiresServe, CallsGrow}
 use Rattle.hg_build.specs.declared.region.Region.{Region}
 use Rattle.hg_build.specs.declared.region.Place.{Place}
 use Rattle.hg_build.specs.declared.wire.Held.{Held}
 use Rattle.hg_build.proofs.Moves.{grows_trans}
-use Rattle.hg_build.proofs.Grow.{node_grows}
-use Rattle.hg_build.proofs.Rules.{known_child, after_grows, cases_grow}
+use Rattle.hg_build.proofs.Grow.{node_grows, links_grow}
+use Rattle.hg_build.proofs.Rules.{known_child, after_grows, cases_grow, ends_grow}
 use Rattle.hg_build.proofs.Ordering.{after_at}
 
 serve : (r : Region) (base : Base) (width : ℕ) (frs : List Frame) (ss : List Step) (hs : List Held) (ts : Types) → Built r base width frs ss → AreWires r ss hs ts → ServesCalls r ss hs ts
@@ -81,6 +81,7 @@ handed_from new ss s kind front (t ∷ ts) q e f at = (
 pub wires_serve : WiresServe
 wires_serve = record {
   serve = serve;
+  grown = wires_stay;
   stay = λ old new base width frs ss kind ps source n handed hs ts act b a w.
       wires_stay old new base width frs ss (step (next_node old) ps act) hs ts b (subst (Grows old.graph) (sym a.graph) (after_grows old.graph kind old.place.container ps source _)) (ap (λ (p : Place). p.input) a.place) w;
   handed = λ old new ss kind ps source n handed act a.
@@ -97,4 +98,33 @@ wires_serve = record {
       let h = after_choice g rows ins outs c ps in
       let grows : Grows g h = grows_trans g h1 h (after_grows g (Conditional rows ins outs) c ps None None) (cases_grow (length g.nodes) rows ins outs h1) in
       wires_stay old new base width frs ss (step (next_node old) ps act) hs ts b (subst (Grows g) (sym a.graph) grows) (ap (λ (p : Place). p.input) a.place) w;
+}
+
+constant_grows : (g : Graph) (value : ℤ) (c : ℕ) → Grows g (after_constant g value c)
+constant_grows g value c =
+    let g1 = with_node g (Const value) c in
+    grows_trans g g1 (after_constant g value c) (node_grows g (Const value) c) (after_grows g1 LoadConstant c [] (Some (length g.nodes)) None)
+
+choice_grows : (g : Graph) (rows : List Types) (ins outs : Types) (c : ℕ) (ps : List Port) → Grows g (after_choice g rows ins outs c ps)
+choice_grows g rows ins outs c ps =
+    let h1 = after_node g (Conditional rows ins outs) c ps None None in
+    grows_trans g h1 (after_choice g rows ins outs c ps) (after_grows g (Conditional rows ins outs) c ps None None) (cases_grow (length g.nodes) rows ins outs h1)
+
+leave_grows : (g : Graph) (o : ℕ) (ps : List Port) (prior : Option ℕ) (n : ℕ) → Grows g (after_leave g o ps prior n)
+leave_grows g o ps prior n =
+    let h1 = with_links g (value_links o 0 ps) in
+    grows_trans g h1 (after_leave g o ps prior n) (links_grow g (value_links o 0 ps)) (links_grow h1 (order_links prior n))
+
+pub calls_grow : CallsGrow
+calls_grow = record {
+  node = λ old new kind ps source n handed a. subst (Grows old.graph) (sym a.graph) (after_grows old.graph kind old.place.container ps source _);
+  constant = λ old new value out a. subst (Grows old.graph) (sym a.graph) (constant_grows old.graph value old.place.container);
+  choice = λ old new rows ins outs ps n handed a. subst (Grows old.graph) (sym a.graph) (choice_grows old.graph rows ins outs old.place.container ps);
+  block = λ old new cfg kind n a. subst (Grows old.graph) (sym a.graph) (node_grows old.graph kind cfg);
+  control = λ old new from to a. subst (Grows old.graph) (sym a.graph) (links_grow old.graph _);
+  opened = λ old c ins outs new handed a. subst (Grows old) (sym a.graph) (ends_grow old c ins outs);
+  entered = λ old c outer inner handed a. subst (Grows old.graph) (sym a.graph) (ends_grow old.graph c _ _);
+  left = λ inner outer ps new a. subst (Grows inner.graph) (sym a.graph) (leave_grows inner.graph inner.place.output ps _ outer.node);
+  finished = λ old ps new a. subst (Grows old.graph) (sym a.graph) (links_grow old.graph _);
+  joined = grows_trans;
 }

@@ -3,6 +3,8 @@ mod Discards
 mod Due
 mod Made
 mod OneAnswer
+mod ReadGraphs
 mod ReadSoFar
 mod Served
+mod Validity
 mod Told

@@ -12,6 +12,8 @@ use Rattle.guppy_call.specs.Call.{Answer, Seen, refused, Delivers, Settles}
 use Rattle.guppy_call.specs.Compile.{source_limit, IsDue, too_long, IsGraphOf}
 use Rattle.guppy_call.specs.RunDue as run
 use Rattle.guppy_call.specs.RunDue.{graph_text_limit, IsDueRun}
+use Rattle.guppy_call.specs.Validity as validity
+use Rattle.guppy_call.specs.Validity.{IsDueValidity}
 use Rattle.guppy_call.specs.WordsFile.{Means, AnswersFile, failed, no_memory, read}
 use Rattle.guppy_call.specs.Input.{AreRead}
 use Rattle.guppy_call.specs.Modes.{limit_of, IsDueIn}
@@ -68,6 +70,16 @@ due-run text answer (run.too_long long) = run.too_long (longer graph_text_limit 
 due-run text answer (run.no_graph within why e) = due-front text _ within (run.no_graph within why e)
 due-run text answer (run.not_built g t n) = due-front text _ t.within (run.not_built g t n)
 due-run text answer (run.runs g t n) = due-front text _ t.within (run.runs g t n)
+
+-- what is due for a validated text is due for the bytes that are read of it
+validity-front : (text : List ℕ) (answer : Answer) → length text ≤ graph_text_limit → IsDueValidity text answer → IsDueValidity (front graph_text_limit text) answer
+validity-front text answer within due = subst (λ t. IsDueValidity t answer) (whole graph_text_limit text within) due
+
+pub due-validity : (text : List ℕ) (answer : Answer) → IsDueValidity text answer → IsDueValidity (front graph_text_limit text) answer
+due-validity text answer (validity.too_long long) = validity.too_long (longer graph_text_limit text long)
+due-validity text answer (validity.no_graph within why e) = validity-front text _ within (validity.no_graph within why e)
+due-validity text answer (validity.broken g t rule n b) = validity-front text _ t.within (validity.broken g t rule n b)
+due-validity text answer (validity.valid g t v) = validity-front text _ t.within (validity.valid g t v)
 
 -- the graph of gates, with what holds of it
 pub graph_of : (gates : List ThinGate) → IsGraphOf gates (thin_graph gates)

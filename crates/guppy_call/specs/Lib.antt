@@ -7,6 +7,7 @@ pub mod OneAnswer
 pub mod Refusal
 pub mod RunDue
 pub mod Status
+pub mod Validity
 pub mod Words
 pub mod WordsFile
 pub mod code

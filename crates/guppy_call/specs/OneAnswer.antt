@@ -5,8 +5,10 @@ use Rattle.guppy_call.specs.Compile as compile
 use Rattle.guppy_call.specs.Compile.{IsDue}
 use Rattle.guppy_call.specs.RunDue as run
 use Rattle.guppy_call.specs.RunDue.{IsDueRun}
+use Rattle.guppy_call.specs.Validity as validity
+use Rattle.guppy_call.specs.Validity.{IsDueValidity}
 
--- the five forms of a source text, and the four of a graph text
+-- the five forms of a source text, and the four of a graph text that is run, or validated
 pub data TextForm : Type 0 where
   too_long : TextForm
   not_built : TextForm
@@ -19,6 +21,12 @@ pub data GraphTextForm : Type 0 where
   no_graph : GraphTextForm
   not_built : GraphTextForm
   runs : GraphTextForm
+
+pub data ValidityForm : Type 0 where
+  too_long : ValidityForm
+  no_graph : ValidityForm
+  broken : ValidityForm
+  valid : ValidityForm
 
 -- the form for which an answer is due
 abbrev pub form_of : (text : List ℕ) (answer : Answer) → IsDue text answer → TextForm
@@ -34,6 +42,12 @@ graph_form_of text _ (run.no_graph within why refused) = GraphTextForm.no_graph
 graph_form_of text _ (run.not_built g read other) = GraphTextForm.not_built
 graph_form_of text _ (run.runs g read thin) = GraphTextForm.runs
 
+abbrev pub validity_form_of : (text : List ℕ) (answer : Answer) → IsDueValidity text answer → ValidityForm
+validity_form_of text _ (validity.too_long long) = ValidityForm.too_long
+validity_form_of text _ (validity.no_graph within why refused) = ValidityForm.no_graph
+validity_form_of text _ (validity.broken g read rule n first) = ValidityForm.broken
+validity_form_of text _ (validity.valid g read rules) = ValidityForm.valid
+
 -- exactly one answer is due, and all of its causes have one form
 pub record HasOneAnswer {Form : Type 0} (Due : Answer → Type 0) (form : (answer : Answer) → Due answer → Form) : Type 0 where
   pub answer : Answer
@@ -45,6 +59,9 @@ pub record HasOneAnswer {Form : Type 0} (Due : Answer → Type 0) (form : (answe
 abbrev pub TextsHaveOneAnswer : Type 0
 TextsHaveOneAnswer = (text : List ℕ) → HasOneAnswer (IsDue text) (form_of text)
 
--- for each graph text
+-- for each graph text, run or validated
 abbrev pub GraphTextsHaveOneAnswer : Type 0
 GraphTextsHaveOneAnswer = (text : List ℕ) → HasOneAnswer (IsDueRun text) (graph_form_of text)
+
+abbrev pub GraphTextsHaveOneValidity : Type 0
+GraphTextsHaveOneValidity = (text : List ℕ) → HasOneAnswer (IsDueValidity text) (validity_form_of text)

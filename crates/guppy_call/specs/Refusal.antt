@@ -7,7 +7,7 @@ use Rattle.guppy_call.specs.declared.refusal.SourceFault.TheVariants as f
 use Rattle.guppy_call.specs.declared.refusal.GraphFault as graph
 use Rattle.guppy_call.specs.declared.refusal.GraphFault.TheVariants as g
 use Rattle.guppy_call.specs.declared.refusal.Refusal.{Refusal}
-use Rattle.guppy_call.specs.declared.refusal.Refusal.TheVariants.{WordsNotUnderstood, ReadFault, TooLong, NotBuilt, Source, Graph}
+use Rattle.guppy_call.specs.declared.refusal.Refusal.TheVariants.{WordsNotUnderstood, ReadFault, TooLong, NotBuilt, Source, Graph, Rule}
 
 abbrev pub fault_text : fault.SourceFault → List ℕ
 fault_text f.GivenUp = codes "GivenUp"
@@ -27,6 +27,7 @@ refusal_text TooLong = codes "guppy: input too long"
 refusal_text NotBuilt = codes "guppy: form not built yet"
 refusal_text (Source line fault) = codes "line " ++ (decimal line.0 ++ (codes ": " ++ fault_text fault))
 refusal_text (Graph fault) = codes "graph: " ++ graph_fault_text fault
+refusal_text (Rule rule node) = codes "graph: rule " ++ (decimal rule ++ (codes " node " ++ decimal node))
 
 abbrev pub status_of : Refusal → Status
 status_of WordsNotUnderstood = status.Words
@@ -35,3 +36,4 @@ status_of TooLong = status.Refused
 status_of NotBuilt = status.Refused
 status_of (Source line fault) = status.Refused
 status_of (Graph fault) = status.Refused
+status_of (Rule rule node) = status.Refused

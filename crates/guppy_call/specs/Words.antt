@@ -1,7 +1,7 @@
 -- What the words of a command line mean.
 use Rattle.std.specs.Prelude.{ℕ, Bool, false, not, ◌==◌, bytes_eq, if◌then◌else◌, List, [], ◌∷◌, codes, Option, Some, None}
 use Rattle.guppy_call.specs.declared.words.Mode.{Mode}
-use Rattle.guppy_call.specs.declared.words.Mode.TheVariants.{Compile, Run}
+use Rattle.guppy_call.specs.declared.words.Mode.TheVariants.{Compile, Validate, Run}
 use Rattle.guppy_call.specs.declared.words.Request.{Request}
 
 -- a mode, and the name of the file that it reads
@@ -14,7 +14,10 @@ request_view request = record { mode = request.mode; file = request.file.now }
 
 -- the mode of this name
 abbrev pub mode_named : List ℕ → Option Mode
-mode_named word = if bytes_eq word (codes "compile") then Some Compile else (if bytes_eq word (codes "run") then Some Run else None)
+mode_named word =
+    if bytes_eq word (codes "compile") then Some Compile
+    else (if bytes_eq word (codes "validate") then Some Validate
+    else (if bytes_eq word (codes "run") then Some Run else None))
 
 -- a file's name isn't empty and doesn't begin with `-`
 abbrev pub is_file_name : List ℕ → Bool

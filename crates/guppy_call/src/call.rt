@@ -10,6 +10,7 @@ ghost use Rattle.guppy_call.specs.Call.{Answer, seen, refused, done, Answered, D
 ghost use Rattle.guppy_call.specs.Compile.{source_limit, IsThin, IsNotThin, spent_lines, given_up_at, held_at_return_at, IsDue, IsGraphOf};
 ghost use Rattle.guppy_call.specs.Modes.{limit_of, IsDueIn};
 ghost use Rattle.guppy_call.specs.RunDue.{graph_text_limit, IsDueRun};
+ghost use Rattle.guppy_call.specs.Validity.{IsDueValidity};
 ghost use Rattle.guppy_call.specs.WordsFile.{Means, FileHolds, FileMissing, AnswersFile};
 ghost use Rattle.hg_json.specs.GraphText.{json};
 ghost use Rattle.guppy_call.specs.Words.{meaning_of};
@@ -61,7 +62,7 @@ fn serve<F: Files, O: Sink, E: Sink>(
 /// Does what the words of a command line mean, the program's name first, and answers the status for the
 /// process. It reads from `files`, writes what was asked for to `out`, and writes why it refuses to `err`.
 ///
-/// Three words have a meaning: any first one, `compile` or `run`, and the name of a file, which isn't empty and
+/// Three words have a meaning: any first one, `compile`, `validate` or `run`, and the name of a file, which isn't empty and
 /// doesn't begin with `-`. What the clauses say of a text, they say of the text that the words' file held
 /// at the start, where `files` tell their contents. A call that is refused writes nothing to `out`. Want of
 /// memory may take the place of any other answer.
@@ -116,6 +117,13 @@ pub fn guppy<F: Files, O: Sink, E: Sink>(
         (O.bytes out.old) (O.bytes out.new) (E.bytes err.old) (E.bytes err.new))
         (done (json g)) }
 
+    // `validate`: its four forms of a graph text, of which each text has exactly one.
+    ensures validate { (text : List ℕ) (answer : Answer)
+        → FileHolds Mode.Validate words.now (F.held files.old) text → IsDueValidity text answer → Settles
+        (seen result (F.faults files.old) (F.faults files.new)
+        (O.bytes out.old) (O.bytes out.new) (E.bytes err.old) (E.bytes err.new))
+        answer }
+
     // `run`: the four forms of a graph text, of which each text has exactly one.
     ensures run { (text : List ℕ) (answer : Answer)
         → FileHolds Mode.Run words.now (F.held files.old) text → IsDueRun text answer → Settles
@@ -123,9 +131,14 @@ pub fn guppy<F: Files, O: Sink, E: Sink>(
         (O.bytes out.old) (O.bytes out.new) (E.bytes err.old) (E.bytes err.new))
         answer }
 
-    // Both over any files, also such as don't tell their contents.
+    // Each over any files, also such as don't tell their contents.
     ensures any_files { (file : List ℕ)
         → Means words.now Mode.Compile file → AnswersFile IsDue source_limit (F.held files.old) file
+        (seen result (F.faults files.old) (F.faults files.new)
+        (O.bytes out.old) (O.bytes out.new) (E.bytes err.old) (E.bytes err.new)) }
+    ensures validate_any_files { (file : List ℕ)
+        → Means words.now Mode.Validate file
+        → AnswersFile IsDueValidity graph_text_limit (F.held files.old) file
         (seen result (F.faults files.old) (F.faults files.new)
         (O.bytes out.old) (O.bytes out.new) (E.bytes err.old) (E.bytes err.new)) }
     ensures run_any_files { (file : List ℕ)

@@ -1,6 +1,6 @@
 //! Laws of the answers: functions without parameters, whose contracts are the laws.
 
-ghost use Rattle.guppy_call.specs.OneAnswer.{TextsHaveOneAnswer, GraphTextsHaveOneAnswer};
+ghost use Rattle.guppy_call.specs.OneAnswer.{TextsHaveOneAnswer, GraphTextsHaveOneAnswer, GraphTextsHaveOneValidity};
 
 /// Each source text has exactly one of its five forms, and exactly one answer of `compile` is due for it.
 #[tactic(auto, using(crate::proofs::OneAnswer::texts_have_one_answer))]
@@ -12,4 +12,10 @@ pub fn texts_have_one_answer()
 #[tactic(auto, using(crate::proofs::OneAnswer::graph_texts_have_one_answer))]
 pub fn graph_texts_have_one_answer()
     ensures { GraphTextsHaveOneAnswer }
+{}
+
+/// Each graph text has exactly one of its four forms for `validate`, and exactly one answer of it is due.
+#[tactic(auto, using(crate::proofs::Validity::graph_texts_have_one_validity))]
+pub fn graph_texts_have_one_validity()
+    ensures { GraphTextsHaveOneValidity }
 {}

@@ -12,6 +12,7 @@ mod product;
 mod refusal;
 mod run;
 pub mod status;
+mod validity;
 mod words;
 
 pub use call::guppy;

@@ -11,6 +11,7 @@ use crate::mode_error::ModeError;
 use crate::output::send;
 use crate::run::graph_to_run;
 use crate::status::Status;
+use crate::validity::validate_text;
 use crate::words::Mode;
 use gp_base::Sink;
 use hg_graph::Graph;
@@ -34,6 +35,10 @@ pub fn product_of(alloc: Global, mode: Mode, text: &[u8]) -> Result<Product, Mod
 {
     match mode {
         Mode::Compile => match compile_text(alloc, text) {
+            Ok(line) => Ok(Product::Text(line)),
+            Err(error) => Err(error),
+        },
+        Mode::Validate => match validate_text(alloc, text) {
             Ok(line) => Ok(Product::Text(line)),
             Err(error) => Err(error),
         },

@@ -77,6 +77,8 @@ pub enum Refusal {
     Source(LineNo, SourceFault),
     /// The graph text has this fault.
     Graph(GraphFault),
+    /// The graph breaks the rule of this number, from 1 to 15, at the node of this number.
+    Rule(u8, u64),
 }
 
 impl fmt::Display for Refusal {
@@ -96,6 +98,7 @@ impl fmt::Display for Refusal {
                 write!(f, "line {number}: {fault}")
             }
             Refusal::Graph(fault) => write!(f, "graph: {fault}"),
+            Refusal::Rule(rule, node) => write!(f, "graph: rule {rule} node {node}"),
         }
     }
 }
@@ -108,8 +111,11 @@ impl Refusal {
         match self {
             Refusal::WordsNotUnderstood => Status::Words,
             Refusal::ReadFault => Status::ReadFault,
-            Refusal::TooLong | Refusal::NotBuilt | Refusal::Source(_, _) | Refusal::Graph(_) =>
-                Status::Refused,
+            Refusal::TooLong
+            | Refusal::NotBuilt
+            | Refusal::Source(_, _)
+            | Refusal::Graph(_)
+            | Refusal::Rule(_, _) => Status::Refused,
         }
     }
 }

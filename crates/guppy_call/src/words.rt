@@ -12,6 +12,8 @@ use hg_json::MAX_TEXT_BYTES;
 pub enum Mode {
     /// Compile a source text to a graph.
     Compile,
+    /// Say whether a graph is valid.
+    Validate,
     /// Run a graph.
     Run,
 }
@@ -25,7 +27,7 @@ impl Mode {
     {
         match self {
             Mode::Compile => SOURCE_LIMIT,
-            Mode::Run => MAX_TEXT_BYTES,
+            Mode::Validate | Mode::Run => MAX_TEXT_BYTES,
         }
     }
 }
@@ -45,6 +47,7 @@ fn mode_of(word: &str) -> Option<Mode>
 {
     match word {
         "compile" => Some(Mode::Compile),
+        "validate" => Some(Mode::Validate),
         "run" => Some(Mode::Run),
         _ => None,
     }

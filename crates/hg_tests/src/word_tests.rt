@@ -16,16 +16,14 @@ fn words(alloc: Global, given: &[&str]) -> Result<Names, AllocError> {
 #[test]
 fn reads_each_mode(rt: HostRuntime) -> Result<(), Fail> {
     let alloc = rt.alloc();
-    let check = words(alloc, &["guppy", "check", "a.py"])?;
-    assert!(rt; matches!(request_of(alloc, &check)?, Request::Check("a.py")));
+    let validate = words(alloc, &["guppy", "validate", "a.json"])?;
+    assert!(rt; matches!(request_of(alloc, &validate)?, Request::Validate("a.json")));
     let compile = words(alloc, &["guppy", "compile", "-"])?;
     assert!(rt; matches!(request_of(alloc, &compile)?, Request::Compile("-")));
     let validate = words(alloc, &["guppy", "validate"])?;
     assert!(rt; matches!(request_of(alloc, &validate)?, Request::Validate("-")));
-    let migrate = words(alloc, &["guppy", "--", "migrate", "-x"])?;
-    assert!(rt; matches!(request_of(alloc, &migrate)?, Request::Migrate("-x")));
-    let sample = words(alloc, &["guppy", "sample", "007"])?;
-    assert!(rt; matches!(request_of(alloc, &sample)?, Request::Sample(7)));
+    let compile = words(alloc, &["guppy", "--", "compile", "-x"])?;
+    assert!(rt; matches!(request_of(alloc, &compile)?, Request::Compile("-x")));
     Ok(())
 }
 
@@ -59,10 +57,10 @@ fn refuses_what_has_no_meaning(rt: HostRuntime) -> Result<(), Fail> {
     let alloc = rt.alloc();
     let lists: [&[&str]; 6] = [
         &["guppy"],
-        &["guppy", "check", "a.py", "--turns=3"],
+        &["guppy", "compile", "a.py", "--turns=3"],
         &["guppy", "run", "--turns=1000001"],
         &["guppy", "run", "--picks=1,,2"],
-        &["guppy", "sample"],
+        &["guppy", "sample", "7"],
         &["guppy", "--help"],
     ];
     for list in lists {

@@ -1,9 +1,10 @@
 use Rattle.hg_graph.specs.Thin.{thin_graph}
-use Rattle.guppy_call.specs.declared.words.Mode.TheVariants.{Compile, Run}
+use Rattle.guppy_call.specs.declared.words.Mode.TheVariants.{Compile, Validate, Run}
 use Rattle.guppy_call.specs.Compile.{source_limit, IsDue, not_built, given_up, held_at_return, compiled}
 use Rattle.guppy_call.specs.RunDue.{graph_text_limit, IsDueRun}
+use Rattle.guppy_call.specs.Validity.{IsDueValidity}
 use Rattle.guppy_call.specs.Words.{request_view}
-use Rattle.guppy_call.proofs.Told.{settles, served-as, due-whole, due-too_long, due-run, graph_of}
+use Rattle.guppy_call.proofs.Told.{settles, served-as, due-whole, due-too_long, due-validity, due-run, graph_of}
 use Rattle.guppy_call.proofs.call.guppy.Goals as goal
 
 pub returns-clause-too_long : goal.returns-clause-too_long
@@ -35,3 +36,8 @@ pub returns-clause-run : goal.returns-clause-run
 returns-clause-run g c text answer k due =
     let served = served-as (request_view c.in-Some.request) c.args.words.now Run k.file _ _ c.in-Some.ensures k.meaning c.serve.ensures.served in
     settles IsDueRun graph_text_limit _ k.file text _ answer k.contents served c.serve.ensures.memory (due-run text answer due)
+
+pub returns-clause-validate : goal.returns-clause-validate
+returns-clause-validate g c text answer k due =
+    let served = served-as (request_view c.in-Some.request) c.args.words.now Validate k.file _ _ c.in-Some.ensures k.meaning c.serve.ensures.served in
+    settles IsDueValidity graph_text_limit _ k.file text _ answer k.contents served c.serve.ensures.memory (due-validity text answer due)

@@ -6,5 +6,5 @@ mod OneAnswer
 mod ReadGraphs
 mod ReadSoFar
 mod Served
-mod Validity
+mod ValidTexts
 mod Told

@@ -18,7 +18,8 @@ use Rattle.guppy_call.specs.Call.{Answer, refused, done}
 use Rattle.guppy_call.specs.Compile as compile
 use Rattle.guppy_call.specs.Compile.{source_limit, IsNotThin, given_up_at, held_at_return_at, IsDue}
 use Rattle.guppy_call.specs.RunDue as run
-use Rattle.guppy_call.specs.RunDue.{graph_text_limit, graph_refusal, ran, IsDueRun}
+use Rattle.guppy_call.specs.GraphTexts.{graph_text_limit, graph_refusal}
+use Rattle.guppy_call.specs.RunDue.{ran, IsDueRun}
 use Rattle.guppy_call.specs.OneAnswer as one
 use Rattle.guppy_call.specs.OneAnswer.{TextForm, form_of, graph_form_of, HasOneAnswer, TextsHaveOneAnswer, GraphTextsHaveOneAnswer}
 use Rattle.guppy_call.proofs.Due.{due-not_thin}

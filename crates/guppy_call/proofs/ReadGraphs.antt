@@ -1,11 +1,11 @@
 -- What is read is a graph: there is a node, and parents and links name nodes.
-use Rattle.std.proofs.Common.{◌≡◌, ◌≢◌, ℕ, zero, suc, ◌<◌, ◌+◌, Bool, true, false, cond, List, [], ◌∷◌, length, slice_get, ◌⊎◌, inl, inr, Option, Some, None, Result, Ok, Err, nat_lt, refl, sym, ap, subst, arith}
+use Rattle.std.proofs.Common.{◌≡◌, ℕ, zero, suc, ◌<◌, Bool, true, false, cond, List, [], ◌∷◌, length, slice_get, inl, inr, Option, Some, None, Result, Ok, Err, nat_lt, refl, sym, ap, subst, arith}
 use Rattle.std.specs.Prelude.{⊤, codes, bytes_eq, ◌==◌}
 use Rattle.std.proofs.lemmas.Bool.{ltb-true}
 use Rattle.serde_json.specs.Data.{Data, null, Items, no_items, item}
 use Rattle.gp_base.specs.Membership.{In}
 use Rattle.hg_ops.specs.Op.{Op}
-use Rattle.hg_graph.specs.Graph.{parent_of, parent_at, Node, Port, Link, Ports, Order, Graph, IsGraph, LinkIsWithin}
+use Rattle.hg_graph.specs.Graph.{parent_of, parent_at, Node, Graph, IsGraph, LinkIsWithin}
 use Rattle.hg_json.specs.Reading.{Refusal, Top, Version, BadNode, BadLink, ◌>>=◌, when, or_refuse, after, natural_of, text_at, natural_at, items_at, op_named, node_of, pair_in, End, AtPort, AtNode, end_at, end_of, joined, link_of, each, count, linked, entries_of, versioned, graph_in, value_of, graph_of}
 
 abbrev Yields : {A : Type 0} → (A → Type 0) → Option A → Type 0

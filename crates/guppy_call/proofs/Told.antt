@@ -7,11 +7,16 @@ use Rattle.hg_graph.specs.Thin.{ThinGate, thin_graph}
 use Rattle.hg_graph.proofs.ThinLinked.{thin_graphs_are_linked}
 use Rattle.hg_graph.proofs.ThinRuns.{thin_graphs_run}
 use Rattle.guppy_call.specs.declared.status.Status.TheVariants as status
-use Rattle.guppy_call.specs.declared.refusal.Refusal.TheVariants.{ReadFault, TooLong}
-use Rattle.guppy_call.specs.Call.{Answer, Seen, refused, Delivers, Settles}
+use Rattle.guppy_call.specs.declared.refusal.Refusal.TheVariants.{TooLong}
+use Rattle.guppy_call.specs.Call.{Answer, Seen, refused, Settles}
 use Rattle.guppy_call.specs.Compile.{source_limit, IsDue, too_long, IsGraphOf}
 use Rattle.guppy_call.specs.RunDue as run
-use Rattle.guppy_call.specs.RunDue.{graph_text_limit, IsDueRun}
+use Rattle.guppy_call.specs.GraphTexts.{graph_text_limit}
+use Rattle.guppy_call.specs.RunDue.{IsDueRun}
+use Rattle.guppy_call.specs.declared.refusal.Refusal.{Refusal}
+use Rattle.hg_graph.specs.Graph.{Graph}
+use Rattle.guppy_call.specs.GraphTexts as texts
+use Rattle.guppy_call.specs.GraphTexts.{IsValidText, IsRefusedText}
 use Rattle.guppy_call.specs.Validity as validity
 use Rattle.guppy_call.specs.Validity.{IsDueValidity}
 use Rattle.guppy_call.specs.WordsFile.{Means, AnswersFile, failed, no_memory, read}
@@ -71,15 +76,21 @@ due-run text answer (run.no_graph within why e) = due-front text _ within (run.n
 due-run text answer (run.not_built g t n) = due-front text _ t.within (run.not_built g t n)
 due-run text answer (run.runs g t n) = due-front text _ t.within (run.runs g t n)
 
--- what is due for a validated text is due for the bytes that are read of it
-validity-front : (text : List ℕ) (answer : Answer) → length text ≤ graph_text_limit → IsDueValidity text answer → IsDueValidity (front graph_text_limit text) answer
-validity-front text answer within due = subst (λ t. IsDueValidity t answer) (whole graph_text_limit text within) due
+-- what a graph text is, the bytes are that are read of it
+refused-front : (text : List ℕ) (why : Refusal) → length text ≤ graph_text_limit → IsRefusedText text why → IsRefusedText (front graph_text_limit text) why
+refused-front text why within r = subst (λ t. IsRefusedText t why) (whole graph_text_limit text within) r
+
+refused-read : (text : List ℕ) (why : Refusal) → IsRefusedText text why → IsRefusedText (front graph_text_limit text) why
+refused-read text _ (texts.too_long long) = texts.too_long (longer graph_text_limit text long)
+refused-read text _ (texts.no_graph within why e) = refused-front text _ within (texts.no_graph within why e)
+refused-read text _ (texts.broken g t rule n b) = refused-front text _ t.within (texts.broken g t rule n b)
+
+valid-read : (text : List ℕ) (g : Graph) → IsValidText text g → IsValidText (front graph_text_limit text) g
+valid-read text g v = subst (λ t. IsValidText t g) (whole graph_text_limit text v.reads.within) v
 
 pub due-validity : (text : List ℕ) (answer : Answer) → IsDueValidity text answer → IsDueValidity (front graph_text_limit text) answer
-due-validity text answer (validity.too_long long) = validity.too_long (longer graph_text_limit text long)
-due-validity text answer (validity.no_graph within why e) = validity-front text _ within (validity.no_graph within why e)
-due-validity text answer (validity.broken g t rule n b) = validity-front text _ t.within (validity.broken g t rule n b)
-due-validity text answer (validity.valid g t v) = validity-front text _ t.within (validity.valid g t v)
+due-validity text _ (validity.refuses why r) = validity.refuses why (refused-read text why r)
+due-validity text _ (validity.valid g v) = validity.valid g (valid-read text g v)
 
 -- the graph of gates, with what holds of it
 pub graph_of : (gates : List ThinGate) → IsGraphOf gates (thin_graph gates)

@@ -1,5 +1,6 @@
 pub mod Call
 pub mod Compile
+pub mod GraphTexts
 pub mod Input
 pub mod Made
 pub mod Modes

@@ -7,6 +7,7 @@ use Rattle.guppy_call.specs.declared.status.Status.TheVariants as status
 use Rattle.guppy_call.specs.Refusal.{status_of}
 use Rattle.hg_graph.specs.Graph.{Graph}
 use Rattle.guppy_call.specs.Call.{Answer, refused}
+use Rattle.guppy_call.specs.GraphTexts.{IsRefusedText}
 use Rattle.guppy_call.specs.declared.product.Product.{Product}
 use Rattle.guppy_call.specs.declared.product.Product.TheVariants as product
 use Rattle.guppy_call.specs.RunDue.{ran}
@@ -44,3 +45,8 @@ abbrev pub MakesProduct : Result Product ModeError → Answer → Type 0
 MakesProduct (Ok made) answer = answer ≡ record { status = status.Done; out = product_text made; err = [] }
 MakesProduct (Err (Refused refusal)) answer = answer ≡ refused refusal
 MakesProduct (Err Memory) answer = Unit {0}
+
+-- a text that is refused so, as an input; or there was no memory
+abbrev pub RefusesText : List ℕ → ModeError → Type 0
+RefusesText text (Refused refusal) = IsRefusedText text refusal × (status_of refusal ≡ status.Refused)
+RefusesText text Memory = Unit {0}

@@ -4,7 +4,8 @@ use Rattle.guppy_call.specs.declared.words.Mode.{Mode}
 use Rattle.guppy_call.specs.declared.words.Mode.TheVariants.{Compile, Validate, Run}
 use Rattle.guppy_call.specs.Call.{Answer}
 use Rattle.guppy_call.specs.Compile.{source_limit, IsDue}
-use Rattle.guppy_call.specs.RunDue.{graph_text_limit, IsDueRun}
+use Rattle.guppy_call.specs.GraphTexts.{graph_text_limit}
+use Rattle.guppy_call.specs.RunDue.{IsDueRun}
 use Rattle.guppy_call.specs.Validity.{IsDueValidity}
 
 -- the most bytes of an input

@@ -5,6 +5,9 @@ use Rattle.guppy_call.specs.Compile as compile
 use Rattle.guppy_call.specs.Compile.{IsDue}
 use Rattle.guppy_call.specs.RunDue as run
 use Rattle.guppy_call.specs.RunDue.{IsDueRun}
+use Rattle.guppy_call.specs.declared.refusal.Refusal.{Refusal}
+use Rattle.guppy_call.specs.GraphTexts as texts
+use Rattle.guppy_call.specs.GraphTexts.{IsRefusedText}
 use Rattle.guppy_call.specs.Validity as validity
 use Rattle.guppy_call.specs.Validity.{IsDueValidity}
 
@@ -42,11 +45,14 @@ graph_form_of text _ (run.no_graph within why refused) = GraphTextForm.no_graph
 graph_form_of text _ (run.not_built g read other) = GraphTextForm.not_built
 graph_form_of text _ (run.runs g read thin) = GraphTextForm.runs
 
+abbrev pub refused_form_of : (text : List ℕ) (why : Refusal) → IsRefusedText text why → ValidityForm
+refused_form_of text _ (texts.too_long long) = ValidityForm.too_long
+refused_form_of text _ (texts.no_graph within why refused) = ValidityForm.no_graph
+refused_form_of text _ (texts.broken g read rule n first) = ValidityForm.broken
+
 abbrev pub validity_form_of : (text : List ℕ) (answer : Answer) → IsDueValidity text answer → ValidityForm
-validity_form_of text _ (validity.too_long long) = ValidityForm.too_long
-validity_form_of text _ (validity.no_graph within why refused) = ValidityForm.no_graph
-validity_form_of text _ (validity.broken g read rule n first) = ValidityForm.broken
-validity_form_of text _ (validity.valid g read rules) = ValidityForm.valid
+validity_form_of text _ (validity.refuses why cause) = refused_form_of text why cause
+validity_form_of text _ (validity.valid g read) = ValidityForm.valid
 
 -- exactly one answer is due, and all of its causes have one form
 pub record HasOneAnswer {Form : Type 0} (Due : Answer → Type 0) (form : (answer : Answer) → Due answer → Form) : Type 0 where

@@ -1,31 +1,13 @@
 -- What `run` answers.
-use Rattle.std.specs.Prelude.{◌≡◌, ℕ, ◌<◌, ◌≤◌, List, [], length, Ok, Err}
+use Rattle.std.specs.Prelude.{◌≡◌, ℕ, ◌<◌, ◌≤◌, List, [], length, Err}
 use Rattle.hg_graph.specs.Graph.{Graph}
 use Rattle.hg_json.specs.Reading as json
 use Rattle.hg_json.specs.Reading.{graph_of}
 use Rattle.hg_run.specs.ThinRun.{IsThinGraph, text_of_run, main_run}
-use Rattle.guppy_call.specs.declared.refusal.Refusal.{Refusal}
 use Rattle.guppy_call.specs.declared.refusal.Refusal.TheVariants as refusal
-use Rattle.guppy_call.specs.declared.refusal.GraphFault.TheVariants as fault
 use Rattle.guppy_call.specs.declared.status.Status.TheVariants as status
 use Rattle.guppy_call.specs.Call.{Answer, refused}
-
--- the refusal of a text that has no graph
-abbrev pub graph_refusal : json.Refusal → Refusal
-graph_refusal json.NotJson = refusal.Graph fault.NotJson
-graph_refusal json.Top = refusal.Graph fault.Top
-graph_refusal json.Version = refusal.Graph fault.Version
-graph_refusal (json.BadNode k) = refusal.Graph (fault.Node k)
-graph_refusal (json.BadLink k) = refusal.Graph (fault.Link k)
-
--- the most bytes that a graph text has
-abbrev pub graph_text_limit : ℕ
-graph_text_limit = 33554432
-
--- a text within the limit has this reading
-pub record IsGraphText (text : List ℕ) (g : Graph) : Type 0 where
-  pub within : length text ≤ graph_text_limit
-  pub graph : graph_of text ≡ Ok g
+use Rattle.guppy_call.specs.GraphTexts.{graph_text_limit, graph_refusal, IsGraphText}
 
 -- a run that is done writes its trace to `out`
 abbrev pub ran : Graph → Answer

@@ -15,7 +15,7 @@ pub fn graph_texts_have_one_answer()
 {}
 
 /// Each graph text has exactly one of its four forms for `validate`, and exactly one answer of it is due.
-#[tactic(auto, using(crate::proofs::Validity::graph_texts_have_one_validity))]
+#[tactic(auto, using(crate::proofs::ValidTexts::graph_texts_have_one_validity))]
 pub fn graph_texts_have_one_validity()
     ensures { GraphTextsHaveOneValidity }
 {}

@@ -98,7 +98,10 @@ impl fmt::Display for Refusal {
                 write!(f, "line {number}: {fault}")
             }
             Refusal::Graph(fault) => write!(f, "graph: {fault}"),
-            Refusal::Rule(rule, node) => write!(f, "graph: rule {rule} node {node}"),
+            Refusal::Rule(rule, node) => {
+                let (rule, node) = (*rule, *node);
+                write!(f, "graph: rule {rule} node {node}")
+            }
         }
     }
 }

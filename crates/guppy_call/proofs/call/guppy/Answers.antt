@@ -1,7 +1,8 @@
 use Rattle.hg_graph.specs.Thin.{thin_graph}
 use Rattle.guppy_call.specs.declared.words.Mode.TheVariants.{Compile, Validate, Run}
 use Rattle.guppy_call.specs.Compile.{source_limit, IsDue, not_built, given_up, held_at_return, compiled}
-use Rattle.guppy_call.specs.RunDue.{graph_text_limit, IsDueRun}
+use Rattle.guppy_call.specs.GraphTexts.{graph_text_limit}
+use Rattle.guppy_call.specs.RunDue.{IsDueRun}
 use Rattle.guppy_call.specs.Validity.{IsDueValidity}
 use Rattle.guppy_call.specs.Words.{request_view}
 use Rattle.guppy_call.proofs.Told.{settles, served-as, due-whole, due-too_long, due-validity, due-run, graph_of}

@@ -4,5 +4,4 @@ mod Due
 mod Made
 mod OneAnswer
 mod ReadSoFar
-mod Served
 mod Told

@@ -1,5 +1,5 @@
 -- The text of a type is read as the type.
-use Rattle.std.proofs.Common.{◌≡◌, ◌≤◌, ◌<◌, ◌+◌, ℕ, zero, suc, max, List, [], ◌∷◌, length, true, false, Option, Some, None, refl, sym, ap, ap₂, ◌∙◌, arith}
+use Rattle.std.proofs.Common.{◌≡◌, ◌≤◌, ◌<◌, ◌+◌, ℕ, zero, suc, List, [], ◌∷◌, length, true, false, Option, Some, None, refl, ap, ap₂, ◌∙◌, arith}
 use Rattle.hg_ops.specs.GraphType.{GraphType, Int, Qubit, Sum, Function, Row, no_types, next, Rows, no_rows, next_row, types, row_of, row_lists, rows_of}
 use Rattle.hg_json.specs.declared.profile.Profile.TheVariants as profile
 use Rattle.hg_json.specs.InHand.{IsSpelled}

@@ -1,4 +1,4 @@
-use Rattle.std.proofs.Common.{◌≡◌, map, ◌+◌, ◌-◌, ◌*◌}
+use Rattle.std.proofs.Common.{◌≡◌, ◌+◌, ◌-◌, ◌*◌}
 use Rattle.hg_json.specs.Steps.{separated}
 use Rattle.hg_json.specs.TypeText.{bar, comma, type_at, row_from}
 use Rattle.hg_json.proofs.Separated.{with_entries}

@@ -5,6 +5,5 @@ mod Made
 mod OneAnswer
 mod ReadGraphs
 mod ReadSoFar
-mod Served
 mod ValidTexts
 mod Told

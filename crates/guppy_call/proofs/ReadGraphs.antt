@@ -6,7 +6,8 @@ use Rattle.serde_json.specs.Data.{Data, null, Items, no_items, item}
 use Rattle.gp_base.specs.Membership.{In}
 use Rattle.hg_ops.specs.Op.{Op}
 use Rattle.hg_graph.specs.Graph.{parent_of, parent_at, Node, Graph, IsGraph, LinkIsWithin}
-use Rattle.hg_json.specs.Reading.{Refusal, Top, Version, BadNode, BadLink, ◌>>=◌, when, or_refuse, after, natural_of, text_at, natural_at, items_at, op_named, node_of, pair_in, End, AtPort, AtNode, end_at, end_of, joined, link_of, each, count, linked, entries_of, versioned, graph_in, value_of, graph_of}
+use Rattle.hg_json.specs.declared.profile.Profile.{Profile}
+use Rattle.hg_json.specs.Reading.{Refusal, Top, Version, BadNode, BadLink, ◌>>=◌, when, or_refuse, after, natural_of, text_at, natural_at, items_at, op_named, node_of, profile_named, pair_in, End, AtPort, AtNode, end_at, end_of, joined, link_of, each, count, linked, entries_of, versioned, graph_in, value_of, graph_of}
 
 abbrev Yields : {A : Type 0} → (A → Type 0) → Option A → Type 0
 Yields P None = ⊤
@@ -41,15 +42,15 @@ reads_from P Q (Ok a) f h p = h a p
 abbrev ParentWithin : ℕ → Node → Type 0
 ParentWithin total node = node.parent < total
 
-node_within : (total : ℕ) (d : Data) → Yields (ParentWithin total) (node_of total d)
+node_within : (version : Profile) (total : ℕ) (d : Data) → Yields (ParentWithin total) (node_of version total d)
 unfolding node_of
-node_within total d =
+node_within version total d =
     let made : ℕ → Op → Node = λ parent op. record { op = op; parent = parent } in
-    let last : List ℕ → ℕ → Option Node = λ name parent. when (nat_lt parent total) (op_named name d >>= λ op. Some (made parent op)) in
+    let last : List ℕ → ℕ → Option Node = λ name parent. when (nat_lt parent total) (op_named version name d >>= λ op. Some (made parent op)) in
     yields_any (ParentWithin total) (text_at (codes "op") d) (λ name. natural_at (codes "parent") d >>= λ parent. last name parent)
     (λ name. yields_any (ParentWithin total) (natural_at (codes "parent") d) (last name)
-    (λ parent. yields_when (ParentWithin total) (nat_lt parent total) (op_named name d >>= λ op. Some (made parent op))
-    (λ e. yields_any (ParentWithin total) (op_named name d) (λ op. Some (made parent op)) (λ op. ltb-true parent total e))))
+    (λ parent. yields_when (ParentWithin total) (nat_lt parent total) (op_named version name d >>= λ op. Some (made parent op))
+    (λ e. yields_any (ParentWithin total) (op_named version name d) (λ op. Some (made parent op)) (λ op. ltb-true parent total e))))
 
 -- ---- links
 
@@ -147,29 +148,29 @@ linked_is nodes edges some h =
     })
     (each_read (LinkIsWithin total) (link_of total) BadLink (link_within total) 0 edges)
 
-entries_is : (nodes edges : Items) → (count nodes ≡ 0 → ⊥) → Reads IsGraph (entries_of nodes edges)
+entries_is : (version : Profile) (nodes edges : Items) → (count nodes ≡ 0 → ⊥) → Reads IsGraph (entries_of version nodes edges)
 unfolding entries_of
-entries_is nodes edges some =
+entries_is version nodes edges some =
     let total = count nodes in
     let Found : List Node → Type 0 = λ found. Each (ParentWithin total) found × AreAsMany nodes found in
-    reads_from Found IsGraph (each (node_of total) BadNode 0 nodes) (λ found. linked found edges)
+    reads_from Found IsGraph (each (node_of version total) BadNode 0 nodes) (λ found. linked found edges)
     (λ found h. linked_is found edges (rw h.1 (not_zero total some)) (rw h.1 h.0))
-    (reads_both (Each (ParentWithin total)) (AreAsMany nodes) (each (node_of total) BadNode 0 nodes)
-    (each_read (ParentWithin total) (node_of total) BadNode (node_within total) 0 nodes) (as_many (node_of total) BadNode 0 nodes))
+    (reads_both (Each (ParentWithin total)) (AreAsMany nodes) (each (node_of version total) BadNode 0 nodes)
+    (each_read (ParentWithin total) (node_of version total) BadNode (node_within version total) 0 nodes) (as_many (node_of version total) BadNode 0 nodes))
   where
     not_zero : (n : ℕ) → (n ≡ 0 → ⊥) → 0 < n
     not_zero zero h = absurd (h refl)
     not_zero (suc n) h = omega arith
 
-either : (none known : Bool) (r : Result Graph Refusal) → (none ≡ false → Reads IsGraph r) → Reads IsGraph (cond none (Err Top) (cond known r (Err Version)))
-either true known r h = tt
-either false true r h = h refl
-either false false r h = tt
+unless : (none : Bool) (r : Result Graph Refusal) → (none ≡ false → Reads IsGraph r) → Reads IsGraph (cond none (Err Top) r)
+unless true r h = tt
+unless false r h = h refl
 
-versioned_is : (version : List ℕ) (nodes edges : Items) → Reads IsGraph (versioned version nodes edges)
+versioned_is : (name : List ℕ) (nodes edges : Items) → Reads IsGraph (versioned name nodes edges)
 unfolding versioned
-versioned_is version nodes edges =
-    either (count nodes == 0) (bytes_eq version (codes "profile-1")) (entries_of nodes edges) (λ e. entries_is nodes edges (λ z. none (count nodes) z e))
+versioned_is name nodes edges =
+    unless (count nodes == 0) (after (or_refuse Version (profile_named name)) (λ version. entries_of version nodes edges))
+    (λ e. reads_any IsGraph (or_refuse Version (profile_named name)) (λ version. entries_of version nodes edges) (λ version. entries_is version nodes edges (λ z. none (count nodes) z e)))
   where
     none : (n : ℕ) → n ≡ 0 → (n == 0) ≡ false → ⊥
     none n z e = absurd (let f : (0 == 0) ≡ false = rw z at e in cc)

@@ -1,8 +1,11 @@
 pub mod Back
 pub mod Compact
+pub mod Floats
 pub mod Names
 pub mod Pieces
 pub mod Plain
 pub mod Pushes
-pub mod Served
+pub mod Separated
 pub mod Turns
+pub mod TypeBack
+pub mod TypePushes

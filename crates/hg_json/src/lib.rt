@@ -2,11 +2,17 @@
 #![tactic(auto)]
 
 mod fault;
+mod keyless;
 mod laws;
 mod links;
 mod nodes;
 mod parts;
+mod profile;
 mod reading;
+mod rows;
+mod type_reading;
+mod type_writing;
+mod values;
 mod writing;
 
 pub use fault::JsonFault;

@@ -27,11 +27,9 @@ pub fn items_at<'v>(value: &'v Value, key: &str) -> Option<&'v Vec<Value>>
     value.get(key)?.as_array()
 }
 
-/// The list of types at a key. So far none is read that has a type.
-#[tactic(auto, unfolding(crate::specs::Reading::no_types_at), using(crate::proofs::Pieces::no_types_some, crate::proofs::Pieces::no_types_none))]
-pub fn no_types_at(value: &Value, key: &str) -> Option<()>
-    ensures { Finds (λ found. found) result (spec.no_types_at key.now (view value.now)) }
+/// The whole number with a sign at a key.
+pub fn integer_at(value: &Value, key: &str) -> Option<i64>
+    ensures { Finds (λ n. n) result (spec.integer_at key.now (view value.now)) }
 {
-    let types = items_at(value, key)?;
-    if types.is_empty() { Some(()) } else { None }
+    value.get(key)?.as_i64()
 }

@@ -4,88 +4,14 @@ ghost use Rattle.std.specs.Prelude.{◌≡◌, ◌<◌, ◌++◌, false, length,
 ghost use Rattle.serde_json.specs.Data.{object};
 ghost use Rattle.serde_json.specs.View.{view as seen};
 ghost use Rattle.serde_json.specs.Written.{has_float, compact_text, comma_if, items_text};
-ghost use Rattle.hg_graph.specs.Graph.{Ports, Order, op_at, parent_at};
-ghost use Rattle.hg_graph.specs.View.{port_view, link_view};
-ghost use Rattle.hg_ops.specs.OpView.{op_view};
-ghost use Rattle.hg_json.specs.GraphText as spec;
-ghost use Rattle.hg_json.specs.GraphText.{IsServed, AreServed, array_of, node_data, node_members, link_data, json};
+ghost use Rattle.hg_graph.specs.Graph.{op_at, parent_at};
+ghost use Rattle.hg_graph.specs.View.{link_view};
+ghost use Rattle.hg_json.specs.GraphText.{array_of, node_data, node_members, link_data, json};
 
-use hg_graph::{Graph, Link, NodeId, Port};
-use hg_ops::{ExtOp, OpKind, name_of};
-use serde_json::{Value, json};
+use crate::values::{link_value, node_value};
+use hg_graph::{Graph, Link, NodeId};
+use serde_json::Value;
 use std::alloc::{AllocError, Global};
-
-// A node whose op has no further keys.
-fn bare(alloc: Global, op: &str, parent: u64) -> Result<Value, AllocError>
-    ensures { IfOk result (λ made. seen made ≡ object (spec.bare op.now parent)) }
-{
-    json!(in alloc; {"op": op, "parent": parent})
-}
-
-// A node whose op has a list of types.
-fn typed(alloc: Global, op: &str, parent: u64) -> Result<Value, AllocError>
-    ensures { IfOk result (λ made. seen made ≡ object (spec.typed op.now parent)) }
-{
-    json!(in alloc; {"op": op, "parent": parent, "types": []})
-}
-
-// A function.
-fn function(alloc: Global, name: &str, parent: u64) -> Result<Value, AllocError>
-    ensures { IfOk result (λ made. seen made ≡ object (spec.function name.now parent)) }
-{
-    json!(in alloc; {"ins": [], "name": name, "op": "FuncDefn", "outs": [], "parent": parent})
-}
-
-// The value of a node whose op is served.
-#[tactic(auto, unfolding(crate::specs::GraphText::node_members))]
-fn node_value(alloc: Global, op: &OpKind, parent: u64) -> Result<Value, AllocError>
-    requires { IsServed (op_view op.now) }
-    ensures { IfOk result (λ made. seen made ≡ object (node_members (op_view op.now) parent)) }
-{
-    match op {
-        OpKind::Module => bare(alloc, "Module", parent),
-        OpKind::FuncDefn { name, .. } => function(alloc, name.as_str(), parent),
-        OpKind::Input { .. } => typed(alloc, "Input", parent),
-        OpKind::Output { .. } => typed(alloc, "Output", parent),
-        OpKind::Alloc => bare(alloc, name_of(ExtOp::Alloc), parent),
-        OpKind::H => bare(alloc, name_of(ExtOp::H), parent),
-        OpKind::X => bare(alloc, name_of(ExtOp::X), parent),
-        OpKind::Free => bare(alloc, name_of(ExtOp::Free), parent),
-        _ => unreachable!(),
-    }
-}
-
-// The value of a link.
-fn link_value(alloc: Global, link: Link) -> Result<Value, AllocError>
-    ensures { IfOk result (λ made. seen made ≡ link_data (link_view link)) }
-{
-    match link {
-        Link::Ports(from, to) => ports_value(alloc, from, to),
-        Link::Order(before, after) => order_value(alloc, before, after),
-    }
-}
-
-fn ports_value(alloc: Global, from: Port, to: Port) -> Result<Value, AllocError>
-    ensures { IfOk result (λ made. seen made ≡ link_data (Ports (port_view from) (port_view to))) }
-{
-    let Port {
-        node: NodeId(n),
-        index: p,
-    } = from;
-    let Port {
-        node: NodeId(m),
-        index: q,
-    } = to;
-    json!(in alloc; [[n, p], [m, q]])
-}
-
-fn order_value(alloc: Global, before: NodeId, after: NodeId) -> Result<Value, AllocError>
-    ensures { IfOk result (λ made. seen made ≡ link_data (Order before.0 after.0)) }
-{
-    let NodeId(n) = before;
-    let NodeId(m) = after;
-    json!(in alloc; [[n, null], [m, null]])
-}
 
 // Writes a value at the end, after a comma where something stands before.
 fn push_value(
@@ -106,8 +32,7 @@ fn push_value(
 
 // Writes a node.
 fn push_node(alloc: Global, out: &mut Vec<u8>, graph: &Graph, number: u64) -> Result<(), AllocError>
-    requires number_in { number < length graph.now.nodes }
-    requires served { AreServed graph.now }
+    requires { number < length graph.now.nodes }
     ensures { OnOk result (out.new.items ≡ out.old.items
         ++ (comma_if (nat_lt 0 number) ++ compact_text (object (node_members (op_at graph.now number) (parent_at graph.now number))))) }
 {
@@ -126,7 +51,6 @@ fn push_link(alloc: Global, out: &mut Vec<u8>, later: bool, link: Link) -> Resul
 
 // Writes the nodes and the closing bracket.
 fn push_nodes(alloc: Global, out: &mut Vec<u8>, graph: &Graph) -> Result<(), AllocError>
-    requires { AreServed graph.now }
     ensures { OnOk result (out.new.items ≡ out.old.items ++ items_text false (array_of node_data graph.now.nodes)) }
 {
     for number in 0..graph.node_count() {
@@ -146,10 +70,8 @@ fn push_links(alloc: Global, out: &mut Vec<u8>, graph: &Graph) -> Result<(), All
     Ok(out.push(b']')?)
 }
 
-/// The text of a graph, without a line end. So far graphs are served whose ops are `Module`, `FuncDefn`, `Input`,
-/// `Output`, `quantum.alloc`, `quantum.h`, `quantum.x` and `quantum.free` without types.
+/// The text of a graph, without a line end.
 pub fn write(alloc: Global, graph: &Graph) -> Result<Vec<u8>, AllocError>
-    requires { AreServed graph.now }
     ensures { IfOk result (λ text. text.items ≡ json graph.now) }
 {
     let mut out = Vec::new(alloc);
@@ -157,6 +79,6 @@ pub fn write(alloc: Global, graph: &Graph) -> Result<Vec<u8>, AllocError>
     push_links(alloc, &mut out, graph)?;
     out.extend_from_slice(b",\"nodes\":[")?;
     push_nodes(alloc, &mut out, graph)?;
-    out.extend_from_slice(b",\"version\":\"profile-1\"}")?;
+    out.extend_from_slice(b",\"version\":\"profile-2\"}")?;
     Ok(out)
 }

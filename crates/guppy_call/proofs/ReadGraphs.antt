@@ -7,7 +7,8 @@ use Rattle.gp_base.specs.Membership.{In}
 use Rattle.hg_ops.specs.Op.{Op}
 use Rattle.hg_graph.specs.Graph.{parent_of, parent_at, Node, Graph, IsGraph, LinkIsWithin}
 use Rattle.hg_json.specs.declared.profile.Profile.{Profile}
-use Rattle.hg_json.specs.Reading.{Refusal, Top, Version, BadNode, BadLink, ◌>>=◌, when, or_refuse, after, natural_of, text_at, natural_at, items_at, op_named, node_of, profile_named, pair_in, End, AtPort, AtNode, end_at, end_of, joined, link_of, each, count, linked, entries_of, versioned, graph_in, value_of, graph_of}
+use Rattle.hg_json.specs.Steps.{◌>>=◌, when}
+use Rattle.hg_json.specs.Reading.{Refusal, Top, Version, BadNode, BadLink, or_refuse, after, natural_of, text_at, natural_at, items_at, op_named, node_of, profile_named, pair_in, End, AtPort, AtNode, end_at, end_of, joined, link_of, each, count, linked, entries_of, versioned, graph_in, value_of, graph_of}
 
 abbrev Yields : {A : Type 0} → (A → Type 0) → Option A → Type 0
 Yields P None = ⊤

@@ -1,5 +1,5 @@
-//! Tests of the calls and laws of ops, graphs, their texts and their runs, and of the words of the command line, in a crate of
-//! their own: the proof of a crate's tests goes over the whole crate once more. Small graphs and what the validator says of them are in `hg_rows`.
+//! Tests of the calls and laws of ops, graphs, their texts and their runs, in a crate of their own: the proof of a crate's tests
+//! goes over the whole crate once more. Small graphs and what the validator says of them are in `hg_rows`.
 #![tactic(auto)]
 
 #[cfg(test)]
@@ -14,5 +14,3 @@ mod op_tests;
 mod run_tests;
 #[cfg(test)]
 mod thin_text_tests;
-#[cfg(test)]
-mod word_tests;

@@ -1,6 +1,6 @@
 -- What is read is a graph: there is a node, and parents and links name nodes.
 use Rattle.std.proofs.Common.{◌≡◌, ℕ, zero, suc, ◌<◌, Bool, true, false, cond, List, [], ◌∷◌, length, slice_get, inl, inr, Option, Some, None, Result, Ok, Err, nat_lt, refl, sym, ap, subst, arith}
-use Rattle.std.specs.Prelude.{⊤, codes, bytes_eq, ◌==◌}
+use Rattle.std.specs.Prelude.{⊤, codes, ◌==◌}
 use Rattle.std.proofs.lemmas.Bool.{ltb-true}
 use Rattle.serde_json.specs.Data.{Data, null, Items, no_items, item}
 use Rattle.gp_base.specs.Membership.{In}

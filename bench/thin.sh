@@ -37,7 +37,7 @@ def thin_graph(gates):
     edges = []
     for k in range(5, len(nodes)):
         edges += [[[k - 1, 0], [k, 0]], [[k - 1, None], [k, None]]]
-    graph = {"edges": edges, "nodes": nodes, "version": "profile-1"}
+    graph = {"edges": edges, "nodes": nodes, "version": "profile-2"}
     return json.dumps(graph, separators=(",", ":"))
 
 

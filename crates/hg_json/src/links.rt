@@ -23,7 +23,8 @@ enum End {
 // The two items of a list that has two.
 #[tactic(auto, using(crate::proofs::Pieces::two_none, crate::proofs::Pieces::two_some))]
 fn two(items: &[Value]) -> Option<(&Value, &Value)>
-    ensures { Finds (λ pair. (view pair.0.now, view pair.1.now)) result (spec.two (items_view items.now)) }
+    ensures { Finds (λ pair. (view pair.0.now, view pair.1.now)) result
+        (spec.two (items_view items.now)) }
 {
     if items.len() != 2 {
         return None;
@@ -33,7 +34,8 @@ fn two(items: &[Value]) -> Option<(&Value, &Value)>
 
 // The two items of an array that has two.
 fn pair_in(value: &Value) -> Option<(&Value, &Value)>
-    ensures { Finds (λ pair. (view pair.0.now, view pair.1.now)) result (spec.pair_in (view value.now)) }
+    ensures { Finds (λ pair. (view pair.0.now, view pair.1.now)) result
+        (spec.pair_in (view value.now)) }
 {
     two(value.as_array()?)
 }

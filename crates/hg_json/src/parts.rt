@@ -22,7 +22,8 @@ pub fn natural_at(value: &Value, key: &str) -> Option<u64>
 
 /// The items of the list at a key.
 pub fn items_at<'v>(value: &'v Value, key: &str) -> Option<&'v Vec<Value>>
-    ensures { Finds (λ items. items_view items.now.items) result (spec.items_at key.now (view value.now)) }
+    ensures { Finds (λ items. items_view items.now.items) result
+        (spec.items_at key.now (view value.now)) }
 {
     value.get(key)?.as_array()
 }

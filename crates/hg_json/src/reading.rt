@@ -29,7 +29,8 @@ fn node_at(
     k: u64,
     value: &Value,
 ) -> Result<Node, JsonFault>
-    ensures answers { Answers node_view result (or_refuse (BadNode k) (spec.node_of profile total (seen value.now))) }
+    ensures answers { Answers node_view result
+        (or_refuse (BadNode k) (spec.node_of profile total (seen value.now))) }
     ensures parent_in { IfOk result (λ node. node.parent.0 < total) }
 {
     match node_of(alloc, profile, total, value) {
@@ -41,7 +42,8 @@ fn node_at(
 
 // The link of entry k, in a graph of `total` nodes.
 fn link_at(total: u64, k: u64, value: &Value) -> Result<Link, JsonFault>
-    ensures answers { Answers link_view result (or_refuse (BadLink k) (spec.link_of total (seen value.now))) }
+    ensures answers { Answers link_view result
+        (or_refuse (BadLink k) (spec.link_of total (seen value.now))) }
     ensures nodes_in { IfOk result (λ link. IsWithin total (link_view link)) }
 {
     match link_of(total, value) {
@@ -61,7 +63,8 @@ fn count(entries: &[Value]) -> u64
 // The nodes of the entries.
 fn nodes_of(alloc: Global, profile: Profile, entries: &[Value]) -> Result<Nodes, JsonFault>
     ensures answers { Answers (λ nodes. map node_view nodes) result
-        (spec.each (spec.node_of profile (spec.count (items_view entries.now))) BadNode 0 (items_view entries.now)) }
+        (spec.each (spec.node_of profile (spec.count (items_view entries.now))) BadNode 0
+        (items_view entries.now)) }
     ensures many { IfOk result (λ nodes. length nodes ≡ spec.count (items_view entries.now)) }
     ensures parents_in { IfOk result (λ nodes. All (λ node. node.parent.0 < length nodes) nodes) }
 {
@@ -77,7 +80,8 @@ fn nodes_of(alloc: Global, profile: Profile, entries: &[Value]) -> Result<Nodes,
 // Adds a link of either kind. After an error the graph is as it was.
 fn add_link(graph: &mut Graph, link: Link) -> Result<(), AllocError>
     requires { IsWithin (length graph.old.nodes) (link_view link) }
-    ensures { OnOk result (graph.new ≡ record graph.old { links = graph.old.links ++ link_view link ∷ [] }) }
+    ensures { OnOk result (graph.new
+        ≡ record graph.old { links = graph.old.links ++ link_view link ∷ [] }) }
 {
     match link {
         Link::Ports(from, to) => graph.link(from, to),
@@ -106,7 +110,8 @@ fn entries_of(
     edges: &[Value],
 ) -> Result<Graph, JsonFault>
     requires { 0 < spec.count (items_view nodes.now) }
-    ensures { Answers (λ made. made) result (spec.entries_of profile (items_view nodes.now) (items_view edges.now)) }
+    ensures { Answers (λ made. made) result
+        (spec.entries_of profile (items_view nodes.now) (items_view edges.now)) }
 {
     let nodes = nodes_of(alloc, profile, nodes)?;
     let graph = Graph::of_nodes(alloc, nodes)?;
@@ -121,7 +126,8 @@ fn versioned(
     nodes: &[Value],
     edges: &[Value],
 ) -> Result<Graph, JsonFault>
-    ensures { Answers (λ made. made) result (spec.versioned name.now (items_view nodes.now) (items_view edges.now)) }
+    ensures { Answers (λ made. made) result
+        (spec.versioned name.now (items_view nodes.now) (items_view edges.now)) }
 {
     if count(nodes) == 0 {
         return Err(JsonFault::Top);

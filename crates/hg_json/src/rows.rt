@@ -25,7 +25,8 @@ fn type_in(alloc: Global, profile: Profile, value: &Value) -> Result<GraphType, 
 
 // The types of the items.
 fn types_of(alloc: Global, profile: Profile, items: &[Value]) -> Result<Row, Miss>
-    ensures { Gives (λ row. row) result (spec.all_of (spec.type_in profile) (items_view items.now)) }
+    ensures { Gives (λ row. row) result
+        (spec.all_of (spec.type_in profile) (items_view items.now)) }
 {
     let mut found = Row::new(alloc);
     for k in 0..items.len() {
@@ -48,7 +49,8 @@ fn row_in(alloc: Global, profile: Profile, value: &Value) -> Result<Row, Miss>
 
 // The rows of the items.
 fn rows_of(alloc: Global, profile: Profile, items: &[Value]) -> Result<Rows, Miss>
-    ensures { Gives (λ rows. rows) result (spec.all_of (spec.row_in profile) (items_view items.now)) }
+    ensures { Gives (λ rows. rows) result
+        (spec.all_of (spec.row_in profile) (items_view items.now)) }
 {
     let mut found = Rows::new(alloc);
     for k in 0..items.len() {

@@ -90,7 +90,8 @@ fn bracketed(
     depth: usize,
     bytes: &[u8],
 ) -> Result<(GraphType, &[u8]), Miss>
-    ensures { Gives (λ x. (type_view x.0, x.1.now)) result (spec.bracketed_from profile (spec.type_at profile depth) bytes.now) }
+    ensures { Gives (λ x. (type_view x.0, x.1.now)) result
+        (spec.bracketed_from profile (spec.type_at profile depth) bytes.now) }
 {
     if let Some(rest) = past_byte(bytes, b'(') {
         return sum(alloc, profile, depth, rest);
@@ -113,7 +114,8 @@ fn sum(
     depth: usize,
     bytes: &[u8],
 ) -> Result<(GraphType, &[u8]), Miss>
-    ensures { Gives (λ x. (type_view x.0, x.1.now)) result (spec.sum_from profile (spec.type_at profile depth) bytes.now) }
+    ensures { Gives (λ x. (type_view x.0, x.1.now)) result
+        (spec.sum_from profile (spec.type_at profile depth) bytes.now) }
 {
     let (rows, rest) = rows(alloc, profile, depth, bytes)?;
     match past_byte(rest, b')') {
@@ -131,7 +133,8 @@ fn function(
     depth: usize,
     bytes: &[u8],
 ) -> Result<(GraphType, &[u8]), Miss>
-    ensures { Gives (λ x. (type_view x.0, x.1.now)) result (spec.function_from profile (spec.type_at profile depth) bytes.now) }
+    ensures { Gives (λ x. (type_view x.0, x.1.now)) result
+        (spec.function_from profile (spec.type_at profile depth) bytes.now) }
 {
     let (ins, rest) = row(alloc, profile, depth, bytes)?;
     let rest = past_byte(rest, b':').ok_or(Miss::Shape)?;
@@ -146,7 +149,8 @@ fn function(
 #[cycle(types)]
 fn rows(alloc: Global, profile: Profile, depth: usize, bytes: &[u8]) -> Result<(Rows, &[u8]), Miss>
     ensures { Gives (λ x. (x.0, x.1.now)) result
-        (separated (spec.row_from profile (spec.type_at profile depth)) spec.bar (length bytes.now) bytes.now) }
+        (separated (spec.row_from profile (spec.type_at profile depth)) spec.bar
+        (length bytes.now) bytes.now) }
 {
     let mut found = Rows::new(alloc);
     let mut rest = bytes;
@@ -165,7 +169,8 @@ fn rows(alloc: Global, profile: Profile, depth: usize, bytes: &[u8]) -> Result<(
 #[cycle(types)]
 #[tactic(auto, unfolding(crate::specs::TypeText::row_from))]
 fn row(alloc: Global, profile: Profile, depth: usize, bytes: &[u8]) -> Result<(Row, &[u8]), Miss>
-    ensures { Gives (λ x. (x.0, x.1.now)) result (spec.row_from profile (spec.type_at profile depth) bytes.now) }
+    ensures { Gives (λ x. (x.0, x.1.now)) result
+        (spec.row_from profile (spec.type_at profile depth) bytes.now) }
 {
     if ends_row(bytes) {
         return Ok((Row::new(alloc), bytes));
@@ -181,7 +186,8 @@ fn some_types(
     depth: usize,
     bytes: &[u8],
 ) -> Result<(Row, &[u8]), Miss>
-    ensures { Gives (λ x. (x.0, x.1.now)) result (separated (spec.type_at profile depth) spec.comma (length bytes.now) bytes.now) }
+    ensures { Gives (λ x. (x.0, x.1.now)) result
+        (separated (spec.type_at profile depth) spec.comma (length bytes.now) bytes.now) }
 {
     let mut found = Row::new(alloc);
     let mut rest = bytes;

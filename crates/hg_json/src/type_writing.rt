@@ -15,7 +15,8 @@ use std::alloc::{AllocError, Global};
 // Writes the text of a type at the end.
 #[cycle(types)]
 fn push_type(out: &mut String, ty: &GraphType) -> Result<(), AllocError>
-    ensures { OnOk result ((rest : List ℕ) → string_bytes out.new ++ rest ≡ string_bytes out.old ++ type_onto (type_view ty.now) rest) }
+    ensures { OnOk result ((rest : List ℕ) →
+        string_bytes out.new ++ rest ≡ string_bytes out.old ++ type_onto (type_view ty.now) rest) }
 {
     match ty {
         GraphType::Int => out.push_str("int"),
@@ -38,7 +39,8 @@ fn push_type(out: &mut String, ty: &GraphType) -> Result<(), AllocError>
 // Writes rows with bars between.
 #[cycle(types)]
 fn push_rows(out: &mut String, rows: &Rows) -> Result<(), AllocError>
-    ensures { OnOk result ((rest : List ℕ) → string_bytes out.new ++ rest ≡ string_bytes out.old ++ rows_onto (rows_of rows.now) rest) }
+    ensures { OnOk result ((rest : List ℕ) →
+        string_bytes out.new ++ rest ≡ string_bytes out.old ++ rows_onto (rows_of rows.now) rest) }
 {
     let rows = rows.as_slice();
     for k in 0..rows.len() {
@@ -51,7 +53,8 @@ fn push_rows(out: &mut String, rows: &Rows) -> Result<(), AllocError>
 // Writes types with commas between.
 #[cycle(types)]
 fn push_row(out: &mut String, row: &Row) -> Result<(), AllocError>
-    ensures { OnOk result ((rest : List ℕ) → string_bytes out.new ++ rest ≡ string_bytes out.old ++ row_onto (row_of row.now) rest) }
+    ensures { OnOk result ((rest : List ℕ) →
+        string_bytes out.new ++ rest ≡ string_bytes out.old ++ row_onto (row_of row.now) rest) }
 {
     let types = row.as_slice();
     for k in 0..types.len() {

@@ -63,7 +63,8 @@ fn two_rows(
     outs: &Row,
     parent: u64,
 ) -> Result<Value, AllocError>
-    ensures { IfOk result (λ made. seen made ≡ object (spec.two_rows op.now ins.now outs.now parent)) }
+    ensures { IfOk result (λ made. seen made
+        ≡ object (spec.two_rows op.now ins.now outs.now parent)) }
 {
     let ins = row_value(alloc, ins)?;
     let outs = row_value(alloc, outs)?;
@@ -85,7 +86,8 @@ fn function(
     outs: &Row,
     parent: u64,
 ) -> Result<Value, AllocError>
-    ensures { IfOk result (λ made. seen made ≡ object (spec.function name.now ins.now outs.now parent)) }
+    ensures { IfOk result (λ made. seen made
+        ≡ object (spec.function name.now ins.now outs.now parent)) }
 {
     let ins = row_value(alloc, ins)?;
     let outs = row_value(alloc, outs)?;
@@ -107,12 +109,19 @@ fn block(
     others: &Row,
     parent: u64,
 ) -> Result<Value, AllocError>
-    ensures { IfOk result (λ made. seen made ≡ object (spec.block ins.now rows.now others.now parent)) }
+    ensures { IfOk result (λ made. seen made
+        ≡ object (spec.block ins.now rows.now others.now parent)) }
 {
     let ins = row_value(alloc, ins)?;
     let rows = rows_value(alloc, rows)?;
     let others = row_value(alloc, others)?;
-    json!(in alloc; {"ins": ins, "op": "DataflowBlock", "others": others, "parent": parent, "rows": rows})
+    json!(in alloc; {
+        "ins": ins,
+        "op": "DataflowBlock",
+        "others": others,
+        "parent": parent,
+        "rows": rows
+    })
 }
 
 // A `Conditional`.
@@ -123,7 +132,8 @@ fn conditional(
     outs: &Row,
     parent: u64,
 ) -> Result<Value, AllocError>
-    ensures { IfOk result (λ made. seen made ≡ object (spec.conditional rows.now ins.now outs.now parent)) }
+    ensures { IfOk result (λ made. seen made
+        ≡ object (spec.conditional rows.now ins.now outs.now parent)) }
 {
     let rows = rows_value(alloc, rows)?;
     let ins = row_value(alloc, ins)?;
@@ -139,12 +149,19 @@ fn tail_loop(
     rest: &Row,
     parent: u64,
 ) -> Result<Value, AllocError>
-    ensures { IfOk result (λ made. seen made ≡ object (spec.tail_loop again.now leave.now rest.now parent)) }
+    ensures { IfOk result (λ made. seen made
+        ≡ object (spec.tail_loop again.now leave.now rest.now parent)) }
 {
     let again = row_value(alloc, again)?;
     let leave = row_value(alloc, leave)?;
     let rest = row_value(alloc, rest)?;
-    json!(in alloc; {"again": again, "leave": leave, "op": "TailLoop", "parent": parent, "rest": rest})
+    json!(in alloc; {
+        "again": again,
+        "leave": leave,
+        "op": "TailLoop",
+        "parent": parent,
+        "rest": rest
+    })
 }
 
 // A `Tag`.
@@ -159,24 +176,40 @@ macro_rules! value_of {
     ([$alloc:ident $op:ident $parent:ident] [$($keyless:ident)*]) => {
         match $op {
             OpKind::Module => bare($alloc, "Module", $parent),
-            OpKind::FuncDefn { name, ins, outs } => function($alloc, name.as_str(), ins, outs, $parent),
+            OpKind::FuncDefn { name, ins, outs } => {
+                function($alloc, name.as_str(), ins, outs, $parent)
+            }
             OpKind::Const { value } => constant($alloc, *value, $parent),
             OpKind::Input { types } => typed($alloc, "Input", types, $parent),
             OpKind::Output { types } => typed($alloc, "Output", types, $parent),
             OpKind::Dfg { ins, outs } => two_rows($alloc, "DFG", ins, outs, $parent),
             OpKind::Cfg { ins, outs } => two_rows($alloc, "CFG", ins, outs, $parent),
-            OpKind::DataflowBlock { ins, rows, others } => block($alloc, ins, rows, others, $parent),
+            OpKind::DataflowBlock { ins, rows, others } => {
+                block($alloc, ins, rows, others, $parent)
+            }
             OpKind::ExitBlock { types } => typed($alloc, "ExitBlock", types, $parent),
-            OpKind::Conditional { rows, ins, outs } => conditional($alloc, rows, ins, outs, $parent),
+            OpKind::Conditional { rows, ins, outs } => {
+                conditional($alloc, rows, ins, outs, $parent)
+            }
             OpKind::Case { ins, outs } => two_rows($alloc, "Case", ins, outs, $parent),
-            OpKind::TailLoop { again, leave, rest } => tail_loop($alloc, again, leave, rest, $parent),
+            OpKind::TailLoop { again, leave, rest } => {
+                tail_loop($alloc, again, leave, rest, $parent)
+            }
             OpKind::Tag { rows, tag } => variant($alloc, rows, *tag, $parent),
             OpKind::Call { ins, outs } => two_rows($alloc, "Call", ins, outs, $parent),
-            OpKind::CallIndirect { ins, outs } => two_rows($alloc, "CallIndirect", ins, outs, $parent),
+            OpKind::CallIndirect { ins, outs } => {
+                two_rows($alloc, "CallIndirect", ins, outs, $parent)
+            }
             OpKind::LoadConstant => bare($alloc, "LoadConstant", $parent),
-            OpKind::LoadFunction { ins, outs } => two_rows($alloc, "LoadFunction", ins, outs, $parent),
-            OpKind::ResultInt { tag } => tagged($alloc, name_of(ExtOp::ResultInt), tag.as_str(), $parent),
-            OpKind::ResultBool { tag } => tagged($alloc, name_of(ExtOp::ResultBool), tag.as_str(), $parent),
+            OpKind::LoadFunction { ins, outs } => {
+                two_rows($alloc, "LoadFunction", ins, outs, $parent)
+            }
+            OpKind::ResultInt { tag } => {
+                tagged($alloc, name_of(ExtOp::ResultInt), tag.as_str(), $parent)
+            }
+            OpKind::ResultBool { tag } => {
+                tagged($alloc, name_of(ExtOp::ResultBool), tag.as_str(), $parent)
+            }
             OpKind::Unpack { types } => typed($alloc, name_of(ExtOp::Unpack), types, $parent),
             $(OpKind::$keyless => bare($alloc, name_of(ExtOp::$keyless), $parent),)*
         }

@@ -21,7 +21,8 @@ fn push_value(
     value: &Value,
 ) -> Result<(), AllocError>
     requires { has_float (seen value.now) ≡ false }
-    ensures { OnOk result (out.new.items ≡ out.old.items ++ (comma_if later ++ compact_text (seen value.now))) }
+    ensures { OnOk result (out.new.items
+        ≡ out.old.items ++ (comma_if later ++ compact_text (seen value.now))) }
 {
     if later {
         out.push(b',')?;
@@ -34,7 +35,8 @@ fn push_value(
 fn push_node(alloc: Global, out: &mut Vec<u8>, graph: &Graph, number: u64) -> Result<(), AllocError>
     requires { number < length graph.now.nodes }
     ensures { OnOk result (out.new.items ≡ out.old.items
-        ++ (comma_if (nat_lt 0 number) ++ compact_text (object (node_members (op_at graph.now number) (parent_at graph.now number))))) }
+        ++ (comma_if (nat_lt 0 number) ++ compact_text (object
+        (node_members (op_at graph.now number) (parent_at graph.now number))))) }
 {
     let node = NodeId(number);
     let value = node_value(alloc, graph.op(node), graph.parent(node).0)?;
@@ -43,7 +45,8 @@ fn push_node(alloc: Global, out: &mut Vec<u8>, graph: &Graph, number: u64) -> Re
 
 // Writes a link.
 fn push_link(alloc: Global, out: &mut Vec<u8>, later: bool, link: Link) -> Result<(), AllocError>
-    ensures { OnOk result (out.new.items ≡ out.old.items ++ (comma_if later ++ compact_text (link_data (link_view link)))) }
+    ensures { OnOk result (out.new.items
+        ≡ out.old.items ++ (comma_if later ++ compact_text (link_data (link_view link)))) }
 {
     let value = link_value(alloc, link)?;
     push_value(alloc, out, later, &value)
@@ -51,7 +54,8 @@ fn push_link(alloc: Global, out: &mut Vec<u8>, later: bool, link: Link) -> Resul
 
 // Writes the nodes and the closing bracket.
 fn push_nodes(alloc: Global, out: &mut Vec<u8>, graph: &Graph) -> Result<(), AllocError>
-    ensures { OnOk result (out.new.items ≡ out.old.items ++ items_text false (array_of node_data graph.now.nodes)) }
+    ensures { OnOk result (out.new.items
+        ≡ out.old.items ++ items_text false (array_of node_data graph.now.nodes)) }
 {
     for number in 0..graph.node_count() {
         push_node(alloc, out, graph, number)?;
@@ -61,7 +65,8 @@ fn push_nodes(alloc: Global, out: &mut Vec<u8>, graph: &Graph) -> Result<(), All
 
 // Writes the links and the closing bracket.
 fn push_links(alloc: Global, out: &mut Vec<u8>, graph: &Graph) -> Result<(), AllocError>
-    ensures { OnOk result (out.new.items ≡ out.old.items ++ items_text false (array_of link_data graph.now.links)) }
+    ensures { OnOk result (out.new.items
+        ≡ out.old.items ++ items_text false (array_of link_data graph.now.links)) }
 {
     for k in 0..graph.link_count() {
         let link = graph.link_at(k).unwrap();

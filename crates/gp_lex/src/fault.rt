@@ -4,7 +4,7 @@ use gp_base::LineNo;
 use std::alloc::{AllocError, AllocFailed};
 
 /// Why a text has no lines. A line number counts physical lines from 1.
-#[derive(Clone, Copy, Debug, PartialEq, Eq)]
+#[derive(Clone, Copy, Debug)]
 pub enum LexFault {
     /// The bytes aren't UTF-8: the line of the first byte of the first invalid sequence.
     NotUtf8(LineNo),

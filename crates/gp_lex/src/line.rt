@@ -5,7 +5,7 @@ use gp_base::{LineNo, Sequence};
 
 /// A logical line: tokens that no line end parts, but those inside brackets and triple-quoted strings.
 /// It has at least one token.
-#[derive(Debug, Drop)]
+#[derive(Drop)]
 pub struct LogicalLine {
     /// The physical line of its first token, counted from 1.
     pub number: LineNo,

@@ -135,7 +135,7 @@ pub enum Symbol {
 }
 
 /// A token.
-#[derive(Debug, Drop)]
+#[derive(Drop)]
 pub enum Token {
     /// A name, which is its own NFKC form and no keyword.
     Name(Name),

@@ -1,4 +1,5 @@
 -- What follows the code: no public contract cites it.
+pub mod Buffering
 pub mod ChosenView
 pub mod Due
 pub mod EntryView

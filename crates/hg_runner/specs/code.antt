@@ -10,6 +10,7 @@ pub mod Kinds
 pub mod Leaves
 pub mod Left
 pub mod Orders
+pub mod Shapes
 pub mod StateView
 pub mod Stepped
 pub mod TablesView

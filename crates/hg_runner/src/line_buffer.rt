@@ -28,8 +28,8 @@ impl Model for LineBuffer {
 
 impl LineBuffer {
     ghost use Rattle.std.specs.Prelude.{◌≡◌, ◌≤◌, ◌++◌, [], OnOk, OnErr, IsErrOf};
-    ghost use Rattle.gp_base.specs.Outside.{appended, Rose, Wrote, WrotePart};
-    ghost use Rattle.hg_runner.specs.code.Buffering.{Grown};
+    ghost use Rattle.gp_base.specs.Outside.{Rose};
+    ghost use Rattle.hg_runner.specs.code.Buffering.{Grown, NoneLost, Passed, PassedPart};
     ghost use Rattle.hg_runner.specs.declared.tell_fault.TellFault.TheVariants as fault;
 
     /// A buffer without bytes. Takes no memory.
@@ -44,7 +44,7 @@ impl LineBuffer {
 
     /// Writes what is kept. After an error the rest of it is kept.
     pub fn flush<S: Sink>(&mut self, sink: &mut S) -> Result<(), Failed>
-        ensures whole { appended (S.bytes sink.new) self.new ≡ appended (S.bytes sink.old) self.old }
+        ensures whole { NoneLost (S.bytes sink.old) self.old (S.bytes sink.new) self.new }
         ensures none { OnOk result (self.new ≡ []) }
         ensures grown { Grown (S.bytes sink.old) (S.bytes sink.new) }
         ensures cause { OnErr result (Rose (S.faults sink.old) (S.faults sink.new)) }
@@ -69,11 +69,12 @@ impl LineBuffer {
     /// Keeps more bytes. Where the buffer is full, what it kept before is written first.
     pub fn put<S: Sink>(&mut self, sink: &mut S, bytes: &[u8]) -> Result<(), TellFault>
         ensures ok { OnOk result
-            (Wrote (appended (S.bytes sink.old) self.old) (appended (S.bytes sink.new) self.new) bytes.now) }
+            (Passed (S.bytes sink.old) self.old (S.bytes sink.new) self.new bytes.now) }
         ensures err { OnErr result
-            (WrotePart (appended (S.bytes sink.old) self.old) (appended (S.bytes sink.new) self.new) bytes.now) }
+            (PassedPart (S.bytes sink.old) self.old (S.bytes sink.new) self.new bytes.now) }
         ensures grown { Grown (S.bytes sink.old) (S.bytes sink.new) }
-        ensures cause { IsErrOf result fault.WriteFault → Rose (S.faults sink.old) (S.faults sink.new) }
+        ensures cause { IsErrOf result fault.WriteFault
+            → Rose (S.faults sink.old) (S.faults sink.new) }
         ensures count { S.faults sink.old ≤ S.faults sink.new }
     {
         if self.bytes.len() >= KEPT {

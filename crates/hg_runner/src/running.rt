@@ -3,16 +3,14 @@
 ghost use Rattle.std.specs.Prelude.{◌≡◌, ◌≢◌, ◌≤◌, ◌⊎◌, [], ◌∷◌, Ok, OnOk, OnErr, IfOk, IsErrOf};
 ghost use Rattle.std.specs.List.{flat_map};
 ghost use Rattle.gp_base.specs.EventText.{event_line};
-ghost use Rattle.gp_base.specs.Outside.{appended, Rose, Wrote, WrotePart};
+ghost use Rattle.gp_base.specs.Outside.{Rose, Wrote, WrotePart};
 ghost use Rattle.gp_base.specs.Run.{Stuck};
-ghost use Rattle.gp_base.specs.World.{start};
-ghost use Rattle.hg_graph.specs.Run.{graph_run};
 ghost use Rattle.hg_runner.specs.code.Stepped.{FramesKeep};
 ghost use Rattle.hg_runner.specs.code.TablesView.{HasTables};
 ghost use Rattle.hg_runner.specs.code.StateView.{halt_view, listed};
-ghost use Rattle.hg_runner.specs.Told.{trace_of, EndsAs, IsEndOfStop};
-ghost use Rattle.hg_runner.specs.code.Buffering.{Grown};
-ghost use Rattle.hg_runner.specs.code.Left.{IsNotStuck, IsEntry, out_of};
+ghost use Rattle.hg_runner.specs.Told.{entry_run, trace_of, EndsAs, IsEndOfStop};
+ghost use Rattle.hg_runner.specs.code.Buffering.{Grown, NoneLost, Passed, PassedPart};
+ghost use Rattle.hg_runner.specs.code.Left.{IsNotStuck, IsEntry, left_trace, out_of};
 ghost use Rattle.hg_runner.specs.declared.tell_fault.TellFault.TheVariants as fault;
 
 use crate::line_buffer::LineBuffer;
@@ -49,9 +47,11 @@ fn write_one<S: Sink>(
     event: Option<Event>,
 ) -> Result<(), TellFault>
     ensures ok { OnOk result
-        (Wrote (appended (S.bytes sink.old) buffer.old) (appended (S.bytes sink.new) buffer.new) (flat_map event_line (listed event))) }
+        (Passed (S.bytes sink.old) buffer.old (S.bytes sink.new) buffer.new
+        (flat_map event_line (listed event))) }
     ensures err { OnErr result
-        (WrotePart (appended (S.bytes sink.old) buffer.old) (appended (S.bytes sink.new) buffer.new) (flat_map event_line (listed event))) }
+        (PassedPart (S.bytes sink.old) buffer.old (S.bytes sink.new) buffer.new
+        (flat_map event_line (listed event))) }
     ensures grown { Grown (S.bytes sink.old) (S.bytes sink.new) }
     ensures cause { IsErrOf result fault.WriteFault → Rose (S.faults sink.old) (S.faults sink.new) }
     ensures count { S.faults sink.old ≤ S.faults sink.new }
@@ -77,10 +77,12 @@ fn tell<S: Sink>(
     requires keep { FramesKeep graph.now frames.items }
     requires run { IsNotStuck (out_of graph.now task frames.items machine []) }
     ensures ok { OnOk result
-        (Wrote (appended (S.bytes sink.old) buffer.old) (appended (S.bytes sink.new) buffer.new) (trace_of (out_of graph.now task frames.items machine []))) }
+        (Passed (S.bytes sink.old) buffer.old (S.bytes sink.new) buffer.new
+        (left_trace graph.now task frames.items machine)) }
     ensures end { IfOk result (λ how. EndsAs (out_of graph.now task frames.items machine []) how) }
     ensures err { OnErr result
-        (WrotePart (appended (S.bytes sink.old) buffer.old) (appended (S.bytes sink.new) buffer.new) (trace_of (out_of graph.now task frames.items machine []))) }
+        (PassedPart (S.bytes sink.old) buffer.old (S.bytes sink.new) buffer.new
+        (left_trace graph.now task frames.items machine)) }
     ensures grown { Grown (S.bytes sink.old) (S.bytes sink.new) }
     ensures cause { IsErrOf result fault.WriteFault → Rose (S.faults sink.old) (S.faults sink.new) }
     ensures count { S.faults sink.old ≤ S.faults sink.new }
@@ -118,11 +120,12 @@ fn finish<S: Sink>(
     buffer: &mut LineBuffer,
     sink: &mut S,
 ) -> Result<End, TellFault>
-    ensures whole { appended (S.bytes sink.new) buffer.new ≡ appended (S.bytes sink.old) buffer.old }
+    ensures whole { NoneLost (S.bytes sink.old) buffer.old (S.bytes sink.new) buffer.new }
     ensures none { OnOk result (buffer.new ≡ []) }
     ensures end { IfOk result (λ how. told ≡ Ok how) }
     ensures grown { Grown (S.bytes sink.old) (S.bytes sink.new) }
-    ensures cause { IsErrOf result fault.WriteFault → IsErrOf told fault.WriteFault ⊎ Rose (S.faults sink.old) (S.faults sink.new) }
+    ensures cause { IsErrOf result fault.WriteFault
+        → IsErrOf told fault.WriteFault ⊎ Rose (S.faults sink.old) (S.faults sink.new) }
     ensures count { S.faults sink.old ≤ S.faults sink.new }
 {
     match told {
@@ -151,11 +154,11 @@ fn tell_whole<S: Sink>(
     requires tables { HasTables graph.now tables.now }
     requires keep { FramesKeep graph.now frames.items }
     requires run { IsNotStuck (out_of graph.now task frames.items machine []) }
-    ensures ok { OnOk result
-        (Wrote (S.bytes sink.old) (S.bytes sink.new) (trace_of (out_of graph.now task frames.items machine []))) }
+    ensures ok { OnOk result (Wrote (S.bytes sink.old) (S.bytes sink.new)
+        (left_trace graph.now task frames.items machine)) }
     ensures end { IfOk result (λ how. EndsAs (out_of graph.now task frames.items machine []) how) }
-    ensures err { OnErr result
-        (WrotePart (S.bytes sink.old) (S.bytes sink.new) (trace_of (out_of graph.now task frames.items machine []))) }
+    ensures err { OnErr result (WrotePart (S.bytes sink.old) (S.bytes sink.new)
+        (left_trace graph.now task frames.items machine)) }
     ensures cause { IsErrOf result fault.WriteFault → Rose (S.faults sink.old) (S.faults sink.new) }
 {
     let mut buffer = LineBuffer::new(alloc);
@@ -206,9 +209,12 @@ pub(crate) fn run_entry<S: Sink>(
     sink: &mut S,
 ) -> Result<End, TellFault>
     requires { IsEntry graph.now entry.0 }
-    ensures ok { OnOk result (Wrote (S.bytes sink.old) (S.bytes sink.new) (trace_of (graph_run graph.now entry.0 [] (start turns outcomes.now) picks.now))) }
-    ensures end { IfOk result (λ how. EndsAs (graph_run graph.now entry.0 [] (start turns outcomes.now) picks.now) how) }
-    ensures err { OnErr result (WrotePart (S.bytes sink.old) (S.bytes sink.new) (trace_of (graph_run graph.now entry.0 [] (start turns outcomes.now) picks.now))) }
+    ensures ok { OnOk result (Wrote (S.bytes sink.old) (S.bytes sink.new)
+        (trace_of (entry_run graph.now entry.0 turns outcomes.now picks.now))) }
+    ensures end { IfOk result
+        (λ how. EndsAs (entry_run graph.now entry.0 turns outcomes.now picks.now) how) }
+    ensures err { OnErr result (WrotePart (S.bytes sink.old) (S.bytes sink.new)
+        (trace_of (entry_run graph.now entry.0 turns outcomes.now picks.now))) }
     ensures cause { IsErrOf result fault.WriteFault → Rose (S.faults sink.old) (S.faults sink.new) }
 {
     let _graph = graph.graph();

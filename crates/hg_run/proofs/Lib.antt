@@ -1,4 +1,0 @@
-pub mod ThinDecided
-mod ThinParts
-mod ThinText
-mod Told

@@ -1,2 +1,0 @@
-pub mod ThinRun
-pub mod code

@@ -1,5 +1,6 @@
 -- What follows the code: no public contract cites it.
 pub mod ChosenView
+pub mod CountedSetView
 pub mod Due
 pub mod EntryView
 pub mod FiringsView

@@ -2,6 +2,7 @@ pub mod Looks
 pub mod Parts
 pub mod Scans
 pub mod Told
+pub mod Counts
 pub mod Walks
 pub mod Lives
 pub mod Numbers

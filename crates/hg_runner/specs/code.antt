@@ -1,6 +1,7 @@
 -- What follows the code: no public contract cites it.
 pub mod Buffering
 pub mod ChosenView
+pub mod CountedSetView
 pub mod Due
 pub mod EntryView
 pub mod FiringsView

@@ -2,6 +2,7 @@
 #![tactic(auto)]
 
 mod arithmetic;
+mod counted_set;
 mod due;
 mod entry;
 mod fault;

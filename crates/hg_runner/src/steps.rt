@@ -18,6 +18,7 @@ ghost use Rattle.hg_runner.specs.code.Stepped.{Makes, MakesStill, Keeps, KeepsSt
 ghost use Rattle.hg_runner.specs.code.Due.{HasDues, HasOtherDues};
 ghost use Rattle.hg_runner.specs.code.TablesView.{HasTables};
 
+use crate::counted_set::CountedSet;
 use crate::due::{first_due, refresh_all, take_due};
 use crate::firings::Firings;
 use crate::followers::followers_at;
@@ -32,7 +33,6 @@ use gp_base::Name;
 use hg_graph::{Graph, NodeId, Port};
 use hg_ops::{OpKind, Row};
 use std::alloc::{AllocError, Global};
-use std::collections::BTreeSet;
 
 // Takes a turn and goes on with a node.
 fn enter_after_turn(machine: &mut Machine, node: NodeId, ins: Values) -> Stepped
@@ -378,7 +378,7 @@ fn choose_child(
     graph: &Graph,
     container: NodeId,
     fired: &Firings,
-    ready: &mut BTreeSet<u64>,
+    ready: &mut CountedSet,
     machine: &mut Machine,
 ) -> Result<Option<Ready>, AllocError>
     requires { HasDues graph.now container.0 (outs_at fired.now) ready.old }

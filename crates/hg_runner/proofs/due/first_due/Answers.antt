@@ -1,16 +1,12 @@
-use Rattle.std.specs.Prelude.{[]}
-use Rattle.std.proofs.Common.{subst, List}
-use Rattle.hg_graph.specs.Run.{Fired, outs_at}
-use Rattle.hg_runner.specs.code.Due.{HasDues}
-use Rattle.hg_runner.proofs.Elsewhere.{at_first, due_among, but_one}
+use Rattle.std.proofs.Common.{length, sym, ap, ◌∙◌}
+use Rattle.std.proofs.lemmas.List.{length-map, length-replicate}
+use Rattle.hg_graph.specs.Run.{outs_at}
+use Rattle.hg_graph.specs.View.{number_of}
+use Rattle.hg_runner.proofs.Elsewhere.{at_first}
 use Rattle.hg_runner.proofs.due.first_due.Goals as goal
 
 pub refresh_all-requires : goal.refresh_all-requires
 refresh_all-requires c =
-    at_first c.args.graph.now c.args.container.0 (outs_at c.new.result) c.children_of.result.now c.new-ready.result
-    (due_among c.args.graph.now c.args.container.0 (outs_at c.new.result) c.children_of.result.now c.children_of.ensures) c.new-ready.ensures.empty
-
-pub returns : goal.returns
-returns c =
-    but_one c.args.graph.now c.args.container.0 (outs_at []) c.args.running.0 c.refresh_all-2.new.ready c.remove.new.self
-    (subst (λ (fired : List Fired). HasDues c.args.graph.now c.args.container.0 (outs_at fired) c.refresh_all-2.new.ready) c.new.ensures c.in_ok-refresh_all.ensures) c.remove.ensures.updates.0
+    let nodes = c.children_of-nodes.result.now in
+    at_first c.args.graph.now c.args.container.0 (outs_at c.new-fired.result) nodes c.in_ok-ready.ready c.children_of-nodes.ensures
+    (ap length c.in_ok-ready.ensures ∙ (length-replicate _ _ ∙ (sym (length-map nodes number_of) ∙ ap length c.children_of-nodes.ensures)))

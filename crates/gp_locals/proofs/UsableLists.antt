@@ -1,5 +1,5 @@
 -- What lists of usable names say of their environments.
-use Rattle.std.proofs.Common.{◌≡◌, ◌≢◌, ℕ, zero, suc, ◌+◌, ◌-◌, ◌<◌, ◌≤◌, Bool, true, false, ◌&&◌, cond, List, [], ◌∷◌, ◌++◌, length, drop, map, filter, get_or, refl, sym, ap, ◌∙◌, subst, Option, Some, None, Result, Ok, Err, not, min, ◌^◌, arith, append-nil, append_assoc, inl, inr}
+use Rattle.std.proofs.Common.{◌≡◌, ℕ, zero, suc, ◌+◌, ◌-◌, ◌<◌, ◌≤◌, Bool, true, false, ◌&&◌, cond, List, [], ◌∷◌, ◌++◌, length, drop, map, filter, get_or, refl, sym, ap, ◌∙◌, subst, Option, Some, None, Result, Ok, Err, not, min, ◌^◌, arith, append-nil, append_assoc, inl, inr}
 use Rattle.std.proofs.lemmas.Bool.{false≢true, cases_lt, lt-leb, le-leb, lt-ltb, le-ltb, eq-eqb, ne_eqb}
 use Rattle.std.specs.Prelude.{slice_set, slice_get, ltb, leb, eqb, OnOk, OnErr}
 use Rattle.std.proofs.lemmas.List.{map-set}
@@ -8,7 +8,7 @@ use Rattle.gp_types.specs.Types.{Ty}
 use Rattle.gp_types.specs.Same.{same_type}
 use Rattle.gp_types.specs.Size.{size}
 use Rattle.gp_locals.specs.Environment.{Names, Environment, NameType, nothing_usable, common, join, is_kept, keeps, total_size, usable}
-use Rattle.gp_locals.specs.code.Usable.{UsableName, usable_from, spread, IsListed, type_among, count_below, stands_at, put_among, is_kept_among, sizes, with_name_at, by_names}
+use Rattle.gp_locals.specs.code.Usable.{UsableName, at_position, usable_from, spread, IsListed, type_among, count_below, stands_at, put_among, is_kept_among, sizes, with_name_at, by_names}
 
 plus_zero : (k : ℕ) → k + 0 ≡ k
 plus_zero k = omega arith
@@ -144,6 +144,12 @@ put_outside n i ty us e l h = go e i (subst (λ m. m ≤ i) (sym l.as_many) h) w
   go (t ∷ e) zero h = absurd (omega (arith, h))
   go (t ∷ e) (suc i) h = ap (λ (x : Environment). t ∷ x) (go e i (omega (arith, h)))
 
+-- a name that has this type already
+pub put_given : (n i : ℕ) (ty : Ty) (us : List UsableName) (e : Environment) → Lists n us e → i < n → put_among i ty us ≡ us
+    → slice_set e i (Some ty) ≡ e
+put_given n i ty us e l h same =
+    sym (view_of n (put_among i ty us) (slice_set e i (Some ty)) (lists_put n i ty us e l h)) ∙ ap (spread 0 n) same ∙ view_of n us e l
+
 -- ---- the same types on another path
 
 keeps_step : (ty : Option Ty) (e o : Environment) (k : ℕ) → keeps (ty ∷ e) (drop k o) ≡ (is_kept ty (get_or o k None) && keeps e (drop (suc k) o))
@@ -275,6 +281,22 @@ put_new p ty (u ∷ us) h = go (put_new p ty us) (ltb u.position p) h where
       ≡ insert (u ∷ us) (cond b (suc (count_below p us)) 0) (record { position = p; ty = ty })
   go r true h = ap (λ (us : List UsableName). u ∷ us) (r h)
   go r false h = rw h refl
+
+-- the name is there with this type, so that nothing changes
+abbrev which : UsableName → Option UsableName → UsableName
+which u None = u
+which u (Some v) = v
+
+pub put_same : (p : ℕ) (ty : Ty) (us : List UsableName) → slice_get us (count_below p us) ≡ Some (at_position p ty) → put_among p ty us ≡ us
+put_same p ty [] h = cc
+put_same p ty (u ∷ us) h = go (put_same p ty us) (ltb u.position p) h where
+  go : (slice_get us (count_below p us) ≡ Some (at_position p ty) → put_among p ty us ≡ us) → (b : Bool)
+      → slice_get (u ∷ us) (cond b (suc (count_below p us)) 0) ≡ Some (at_position p ty)
+      → cond b (u ∷ put_among p ty us) (cond (eqb u.position p) (record { position = p; ty = ty } ∷ us) (record { position = p; ty = ty } ∷ u ∷ us)) ≡ u ∷ us
+  go r true h = ap (λ (us : List UsableName). u ∷ us) (r h)
+  go r false h =
+      let it : u ≡ at_position p ty = ap (which u) h in
+      rw (eq-eqb u.position p (ap (λ (v : UsableName). v.position) it)) (ap (λ (v : UsableName). v ∷ us) (sym it))
 
 -- the same of lists in memory
 module _ {X : Type 0} (view : X → UsableName) (xs : List X) (new : X) where

@@ -4,7 +4,6 @@ pub mod Scans
 pub mod Told
 pub mod Walks
 pub mod Lives
-pub mod Numbers
 pub mod Flags
 pub mod Kept
 pub mod Placing

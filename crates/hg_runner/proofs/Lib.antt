@@ -5,7 +5,6 @@ pub mod Told
 pub mod Counts
 pub mod Walks
 pub mod Lives
-pub mod Numbers
 pub mod Flags
 pub mod Kept
 pub mod Placing

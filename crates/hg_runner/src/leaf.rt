@@ -14,9 +14,7 @@ ghost use Rattle.hg_runner.specs.code.Leaves.{calculation_run, division_run, neg
 ghost use Rattle.hg_runner.specs.code.Leaves.{comparison_run, not_run, bool_run, DoesStill};
 ghost use Rattle.hg_runner.specs.code.Stepped.{Does};
 
-use crate::arithmetic::{
-    Calculation, Comparison, Division, calculated, compared, divided, negated,
-};
+use crate::arithmetic::{Calculation, Comparison, Division, calculated, compared, divided};
 use crate::qubits::{
     allocate, apply_gate, apply_gate_on_three, apply_gate_on_two, free, measure, measure_free,
     reset, rotate,
@@ -26,6 +24,7 @@ use crate::state::{Done, Halt, Machine};
 use crate::value::{Value, Values};
 use gp_base::{Event, GateName, Name, Tag};
 use hg_ops::OpKind;
+use integers::negated;
 use std::alloc::{AllocError, Global};
 
 // Makes a variant of a Sum.

@@ -3,10 +3,10 @@
 //! by hand, from the rules of the language and of graph texts.
 //!
 //! The lines of a table are those of `row_table`. A row's text is what the file `f.py` holds, which is the one file that
-//! there is. Behind `tell` stand the words of a call without the program's name, with one blank between two words, and
-//! `""` for a word of no characters; `(name)` stands for no further word, and `(nothing)` for no word at all. `; ` parts
-//! two calls, of which the second finds in the file what the first wrote to its output. In front of the words may stand,
-//! in this order:
+//! there is. Behind `tell` stand the words of a call without the program's name, with one blank between two words. A word
+//! `FRONT*COUNT:TEXT` is FRONT and TEXT COUNT times behind it, and `""` a word of no characters; `(name)` stands for no
+//! further word, and `(nothing)` for no word at all. `; ` parts two calls, of which the second finds in the file what the
+//! first wrote to its output. In front of the words may stand, in this order:
 //!
 //! - `each prefix: `: the calls are made with each shorter text from the front of the row's text in place of it, and what they
 //!   come to is told where it isn't what those with the text before came to;
@@ -20,6 +20,7 @@
 
 mod calls;
 mod outcome;
+mod words;
 
 use crate::calls::plan_of;
 use crate::outcome::told_calls;

@@ -1,36 +1,15 @@
 //! What calls come to.
 
 use crate::calls::{Failing, Plan, Texts};
+use crate::words::words_of;
 use anyhow::{Result, anyhow};
-use gp_base::{MemoryFiles, MemorySink, Name, Names};
+use gp_base::{MemoryFiles, MemorySink};
 use guppy_call::guppy;
-use std::alloc::{AllocError, Global};
+use std::alloc::Global;
 use std::str;
 
 // How many bytes each sink has room for.
 const ROOM: usize = 1_000_000;
-
-// What stands for a call without words, and for one with the program's name alone.
-const NOTHING: &str = "(nothing)";
-
-const NAME_ALONE: &str = "(name)";
-
-// The words of a call, the program's name first.
-fn words_of(alloc: Global, call: &str) -> Result<Names, AllocError> {
-    let mut words = Names::new(alloc);
-    if call == NOTHING {
-        return Ok(words);
-    }
-    words.push(Name::new(alloc, "guppy")?)?;
-    if call == NAME_ALONE {
-        return Ok(words);
-    }
-    for word in call.split(' ') {
-        let word = if word == "\"\"" { "" } else { word };
-        words.push(Name::new(alloc, word)?)?;
-    }
-    Ok(words)
-}
 
 // Adds what was written to a stream of this name.
 fn push_written(told: &mut String, stream: &str, bytes: &[u8]) -> Result<()> {

@@ -1,7 +1,7 @@
 mod Delivered
 mod Discards
 mod Due
-mod Made
+mod GraphModes
 mod OneAnswer
 mod ReadGraphs
 mod ReadSoFar

@@ -1,27 +1,18 @@
 -- Exactly one answer is due for each text.
-use Rattle.std.proofs.Common.{◌≡◌, ◌≢◌, ◌⊎◌, inl, inr, ℕ, zero, suc, ◌+◌, ◌<◌, ◌≤◌, List, [], ◌∷◌, ◌++◌, length, Result, Ok, Err, refl, sym, ap, ap₂, subst, ◌∙◌, arith, append_assoc, append-nil}
+use Rattle.std.proofs.Common.{◌≡◌, ◌≢◌, ◌⊎◌, inl, inr, ℕ, zero, suc, ◌+◌, ◌<◌, ◌≤◌, List, [], ◌∷◌, ◌++◌, length, refl, sym, ap, ap₂, subst, ◌∙◌, arith, append_assoc, append-nil}
 use Rattle.std.proofs.lemmas.Bool.{cases_eq, cases_lt}
 use Rattle.gp_lower.specs.declared.thin_text.ThinLine.{ThinLine}
 use Rattle.gp_lower.specs.declared.thin_text.ThinLine.TheVariants as line
 use Rattle.gp_lower.specs.ThinText.{line_text, lines_text, thin_head, thin_text}
 use Rattle.gp_lower.proofs.ThinLemmas.{one_reading, not_thin}
-use Rattle.hg_graph.specs.Graph.{Graph}
 use Rattle.hg_graph.specs.Thin.{ThinGate, H, X, thin_graph}
 use Rattle.gp_lower.specs.Thin.{gate_line, gate_lines}
 use Rattle.hg_json.specs.GraphText.{json}
-use Rattle.hg_json.specs.Reading as reading
-use Rattle.hg_json.specs.Reading.{graph_of}
-use Rattle.hg_run.specs.ThinRun.{IsThinGraph}
-use Rattle.hg_run.proofs.ThinDecided.{thin_or_not}
 use Rattle.guppy_call.specs.declared.refusal.Refusal.TheVariants.{TooLong, NotBuilt}
 use Rattle.guppy_call.specs.Call.{Answer, refused, done}
 use Rattle.guppy_call.specs.Compile as compile
 use Rattle.guppy_call.specs.Compile.{source_limit, IsNotThin, given_up_at, held_at_return_at, IsDue}
-use Rattle.guppy_call.specs.RunDue as run
-use Rattle.guppy_call.specs.GraphTexts.{graph_text_limit, graph_refusal}
-use Rattle.guppy_call.specs.RunDue.{ran, IsDueRun}
-use Rattle.guppy_call.specs.OneAnswer as one
-use Rattle.guppy_call.specs.OneAnswer.{TextForm, form_of, graph_form_of, HasOneAnswer, TextsHaveOneAnswer, GraphTextsHaveOneAnswer}
+use Rattle.guppy_call.specs.OneAnswer.{TextForm, form_of, HasOneAnswer, TextsHaveOneAnswer}
 use Rattle.guppy_call.proofs.Due.{due-not_thin}
 
 -- ---- a text is thin or it isn't
@@ -201,88 +192,4 @@ texts_have_one_answer text = elim (cases_lt source_limit (length text)) [
         let other : IsNotThin text = record { within = within; other = λ lines e. n (lines, e) } in
         record { answer = refused NotBuilt; due = compile.not_built other; only = due-not_thin text other; one_form = other_form text other }
   ]
-]
-
--- ---- what is due for a graph text
-
-only_long_graph : (text : List ℕ) → graph_text_limit < length text → (answer : Answer) → IsDueRun text answer → answer ≡ refused TooLong
-only_long_graph text long answer (run.too_long more) = refl
-only_long_graph text long answer (run.no_graph within why e) = absurd (omega arith)
-only_long_graph text long answer (run.not_built g t n) = absurd (omega (arith, t.within))
-only_long_graph text long answer (run.runs g t thin) = absurd (omega (arith, t.within))
-
-same_why : (text : List ℕ) (why other : reading.Refusal) → graph_of text ≡ Err why → graph_of text ≡ Err other → other ≡ why
-same_why text why other e f = cc
-
-only_no_graph : (text : List ℕ) (why : reading.Refusal) → length text ≤ graph_text_limit → graph_of text ≡ Err why → (answer : Answer) → IsDueRun text answer → answer ≡ refused (graph_refusal why)
-only_no_graph text why within e answer (run.too_long long) = absurd (omega arith)
-only_no_graph text why within e answer (run.no_graph l other f) = ap (λ w. refused (graph_refusal w)) (same_why text why other e f)
-only_no_graph text why within e answer (run.not_built g t n) = absurd (let f = t.graph in cc)
-only_no_graph text why within e answer (run.runs g t thin) = absurd (let f = t.graph in cc)
-
-same_graph : (text : List ℕ) (g h : Graph) → graph_of text ≡ Ok g → graph_of text ≡ Ok h → h ≡ g
-same_graph text g h e f = cc
-
-only_not_built : (text : List ℕ) (g : Graph) → length text ≤ graph_text_limit → graph_of text ≡ Ok g → (IsThinGraph g → ⊥) → (answer : Answer) → IsDueRun text answer → answer ≡ refused NotBuilt
-only_not_built text g within e n answer (run.too_long long) = absurd (omega arith)
-only_not_built text g within e n answer (run.no_graph l other f) = absurd cc
-only_not_built text g within e n answer (run.not_built h t m) = refl
-only_not_built text g within e n answer (run.runs h t thin) = absurd (n (subst IsThinGraph (same_graph text g h e t.graph) thin))
-
-only_runs : (text : List ℕ) (g : Graph) → length text ≤ graph_text_limit → graph_of text ≡ Ok g → IsThinGraph g → (answer : Answer) → IsDueRun text answer → answer ≡ ran g
-only_runs text g within e thin answer (run.too_long long) = absurd (omega arith)
-only_runs text g within e thin answer (run.no_graph l other f) = absurd cc
-only_runs text g within e thin answer (run.not_built h t n) = absurd (n (subst IsThinGraph (sym (same_graph text g h e t.graph)) thin))
-only_runs text g within e thin answer (run.runs h t also) = ap ran (same_graph text g h e t.graph)
-
-long_graph_form : (text : List ℕ) → graph_text_limit < length text → (answer : Answer) (due : IsDueRun text answer) → graph_form_of text answer due ≡ one.GraphTextForm.too_long
-long_graph_form text long answer (run.too_long more) = refl
-long_graph_form text long answer (run.no_graph within why e) = absurd (omega arith)
-long_graph_form text long answer (run.not_built g t n) = absurd (omega (arith, t.within))
-long_graph_form text long answer (run.runs g t thin) = absurd (omega (arith, t.within))
-
-no_graph_form : (text : List ℕ) (why : reading.Refusal) → length text ≤ graph_text_limit → graph_of text ≡ Err why → (answer : Answer) (due : IsDueRun text answer) → graph_form_of text answer due ≡ one.GraphTextForm.no_graph
-no_graph_form text why within e answer (run.too_long long) = absurd (omega arith)
-no_graph_form text why within e answer (run.no_graph l other f) = refl
-no_graph_form text why within e answer (run.not_built g t n) = absurd (let f = t.graph in cc)
-no_graph_form text why within e answer (run.runs g t thin) = absurd (let f = t.graph in cc)
-
-other_graph_form : (text : List ℕ) (g : Graph) → length text ≤ graph_text_limit → graph_of text ≡ Ok g → (IsThinGraph g → ⊥) → (answer : Answer) (due : IsDueRun text answer) → graph_form_of text answer due ≡ one.GraphTextForm.not_built
-other_graph_form text g within e n answer (run.too_long long) = absurd (omega arith)
-other_graph_form text g within e n answer (run.no_graph l other f) = absurd cc
-other_graph_form text g within e n answer (run.not_built h t m) = refl
-other_graph_form text g within e n answer (run.runs h t thin) = absurd (n (subst IsThinGraph (same_graph text g h e t.graph) thin))
-
-run_form : (text : List ℕ) (g : Graph) → length text ≤ graph_text_limit → graph_of text ≡ Ok g → IsThinGraph g → (answer : Answer) (due : IsDueRun text answer) → graph_form_of text answer due ≡ one.GraphTextForm.runs
-run_form text g within e thin answer (run.too_long long) = absurd (omega arith)
-run_form text g within e thin answer (run.no_graph l other f) = absurd cc
-run_form text g within e thin answer (run.not_built h t n) = absurd (n (subst IsThinGraph (sym (same_graph text g h e t.graph)) thin))
-run_form text g within e thin answer (run.runs h t also) = refl
-
-by_graph : (text : List ℕ) → length text ≤ graph_text_limit → (read : Result Graph reading.Refusal) → graph_of text ≡ read → HasOneAnswer (IsDueRun text) (graph_form_of text)
-by_graph text within (Err why) e = record {
-  answer = refused (graph_refusal why);
-  due = run.no_graph within why e;
-  only = only_no_graph text why within e;
-  one_form = no_graph_form text why within e;
-}
-by_graph text within (Ok g) e = elim (thin_or_not g) [
-  | inl thin ↦ record {
-    answer = ran g;
-    due = run.runs g (record { within = within; graph = e }) thin;
-    only = only_runs text g within e thin;
-    one_form = run_form text g within e thin;
-  }
-  | inr n ↦ record {
-    answer = refused NotBuilt;
-    due = run.not_built g (record { within = within; graph = e }) n;
-    only = only_not_built text g within e n;
-    one_form = other_graph_form text g within e n;
-  }
-]
-
-pub graph_texts_have_one_answer : GraphTextsHaveOneAnswer
-graph_texts_have_one_answer text = elim (cases_lt graph_text_limit (length text)) [
-  | inl long ↦ record { answer = refused TooLong; due = run.too_long long; only = only_long_graph text long; one_form = long_graph_form text long }
-  | inr within ↦ by_graph text within (graph_of text) refl
 ]

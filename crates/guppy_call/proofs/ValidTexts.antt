@@ -23,7 +23,7 @@ use Rattle.guppy_call.specs.GraphTexts as texts
 use Rattle.guppy_call.specs.GraphTexts.{graph_text_limit, graph_refusal, IsGraphText, IsValidText, IsRefusedText}
 use Rattle.guppy_call.specs.Validity as validity
 use Rattle.guppy_call.specs.Validity.{IsDueValidity}
-use Rattle.guppy_call.specs.OneAnswer.{ValidityForm, refused_form_of, validity_form_of, GraphTextsHaveOneValidity}
+use Rattle.guppy_call.specs.OneAnswer.{ValidityForm, RefusedForm, refused_form_of, validity_form_of, GraphTextsHaveOneValidity}
 use Rattle.guppy_call.proofs.ReadGraphs.{read_is_graph}
 
 same_graph : (text : List ℕ) (g h : Graph) → graph_of text ≡ Ok g → graph_of text ≡ Ok h → h ≡ g
@@ -102,6 +102,8 @@ invalid_text text g (error.Refused refusal.TooLong) within read h = absurd h
 invalid_text text g (error.Refused refusal.NotBuilt) within read h = absurd h
 invalid_text text g (error.Refused (refusal.Source line fault)) within read h = absurd h
 invalid_text text g (error.Refused (refusal.Graph fault)) within read h = absurd h
+invalid_text text g (error.Refused refusal.NoEntry) within read h = absurd h
+invalid_text text g (error.Refused refusal.EntryNotClosed) within read h = absurd h
 invalid_text text g error.Memory within read h = tt
 
 -- ---- what is due where a text is validated
@@ -114,7 +116,7 @@ pub due_valid : (text : List ℕ) (g : Graph) → IsValidText text g → (answer
 due_valid text g v answer (validity.refuses why r) = absurd (never_both text g why v r)
 due_valid text g v answer (validity.valid h w) = refl
 
-one_refused_form : (text : List ℕ) (why other : Refusal) (r : IsRefusedText text why) (s : IsRefusedText text other) → refused_form_of text other s ≡ refused_form_of text why r
+pub one_refused_form : (text : List ℕ) (why other : Refusal) (r : IsRefusedText text why) (s : IsRefusedText text other) → refused_form_of text other s ≡ refused_form_of text why r
 one_refused_form text _ _ (texts.too_long long) (texts.too_long more) = refl
 one_refused_form text _ _ (texts.too_long long) (texts.no_graph within w e) = absurd (omega arith)
 one_refused_form text _ _ (texts.too_long long) (texts.broken g t rule n b) = absurd (omega (arith, t.within))
@@ -125,8 +127,8 @@ one_refused_form text _ _ (texts.broken g t rule n b) (texts.too_long long) = ab
 one_refused_form text _ _ (texts.broken g t rule n b) (texts.no_graph l x f) = absurd (let e = t.graph in cc)
 one_refused_form text _ _ (texts.broken g t rule n b) (texts.broken h u other m c) = refl
 
-form_refused : (text : List ℕ) (why : Refusal) (r : IsRefusedText text why) → (answer : Answer) (due : IsDueValidity text answer) → validity_form_of text answer due ≡ refused_form_of text why r
-form_refused text why r answer (validity.refuses other s) = one_refused_form text why other r s
+form_refused : (text : List ℕ) (why : Refusal) (r : IsRefusedText text why) → (answer : Answer) (due : IsDueValidity text answer) → validity_form_of text answer due ≡ ValidityForm.refused_for (refused_form_of text why r)
+form_refused text why r answer (validity.refuses other s) = ap ValidityForm.refused_for (one_refused_form text why other r s)
 form_refused text why r answer (validity.valid g v) = absurd (never_both text g why v r)
 
 form_valid : (text : List ℕ) (g : Graph) → IsValidText text g → (answer : Answer) (due : IsDueValidity text answer) → validity_form_of text answer due ≡ ValidityForm.valid

@@ -30,20 +30,17 @@ refused refusal = record { status = status_of refusal; out = []; err = line_of (
 abbrev pub done : List ℕ → Answer
 done text = record { status = status.Done; out = line_of text; err = [] }
 
--- The status of a call, with the count of faults of its files and the bytes of both sinks, where they are
--- told, before and after it.
+-- The status of a call, and the bytes of both sinks, where they are told, before and after it.
 pub record Seen : Type 0 where
   pub status : Status
-  pub faults : ℕ
-  pub faults_after : ℕ
   pub out : Option (List ℕ)
   pub out_after : Option (List ℕ)
   pub err : Option (List ℕ)
   pub err_after : Option (List ℕ)
 
-abbrev pub seen : Status → ℕ → ℕ → Option (List ℕ) → Option (List ℕ) → Option (List ℕ) → Option (List ℕ) → Seen
-seen status faults faults_after out out_after err err_after =
-    record { status = status; faults = faults; faults_after = faults_after; out = out; out_after = out_after; err = err; err_after = err_after }
+abbrev pub seen : Status → Option (List ℕ) → Option (List ℕ) → Option (List ℕ) → Option (List ℕ) → Seen
+seen status out out_after err err_after =
+    record { status = status; out = out; out_after = out_after; err = err; err_after = err_after }
 
 -- the call answered so, and all was written
 pub record Answered (call : Seen) (answer : Answer) : Type 0 where
@@ -60,6 +57,12 @@ pub record CutShort (call : Seen) (answer : Answer) : Type 0 where
 abbrev pub Delivers : Seen → Answer → Type 0
 Delivers call answer = Answered call answer ⊎ CutShort call answer
 
--- the call delivers the answer; or a fault of reading was counted, and it delivers that
-abbrev pub Settles : Seen → Answer → Type 0
-Settles call answer = (Rose call.faults call.faults_after × Delivers call (refused ReadFault)) ⊎ Delivers call answer
+-- there was no memory, and nothing was written
+pub record HasNoMemory (call : Seen) : Type 0 where
+  pub status : call.status ≡ status.Memory
+  pub out : Wrote call.out call.out_after []
+  pub err : Wrote call.err call.err_after []
+
+-- the call delivers the answer; or the count of faults of its files rose, and it delivers that
+abbrev pub Settles : ℕ → ℕ → Seen → Answer → Type 0
+Settles faults faults_after call answer = (Rose faults faults_after × Delivers call (refused ReadFault)) ⊎ Delivers call answer

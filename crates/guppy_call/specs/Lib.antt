@@ -3,12 +3,12 @@ pub mod Compile
 pub mod GraphTexts
 pub mod Input
 pub mod Made
+pub mod Migration
 pub mod Modes
 pub mod OneAnswer
 pub mod Refusal
 pub mod RunDue
 pub mod Status
 pub mod Validity
-pub mod Words
 pub mod WordsFile
 pub mod code

@@ -7,7 +7,7 @@ use Rattle.guppy_call.specs.declared.refusal.SourceFault.TheVariants as f
 use Rattle.guppy_call.specs.declared.refusal.GraphFault as graph
 use Rattle.guppy_call.specs.declared.refusal.GraphFault.TheVariants as g
 use Rattle.guppy_call.specs.declared.refusal.Refusal.{Refusal}
-use Rattle.guppy_call.specs.declared.refusal.Refusal.TheVariants.{WordsNotUnderstood, ReadFault, TooLong, NotBuilt, Source, Graph, Rule}
+use Rattle.guppy_call.specs.declared.refusal.Refusal.TheVariants.{WordsNotUnderstood, ReadFault, TooLong, NotBuilt, Source, Graph, Rule, NoEntry, EntryNotClosed}
 
 abbrev pub fault_text : fault.SourceFault → List ℕ
 fault_text f.GivenUp = codes "GivenUp"
@@ -28,6 +28,8 @@ refusal_text NotBuilt = codes "guppy: form not built yet"
 refusal_text (Source line fault) = codes "line " ++ (decimal line.0 ++ (codes ": " ++ fault_text fault))
 refusal_text (Graph fault) = codes "graph: " ++ graph_fault_text fault
 refusal_text (Rule rule node) = codes "graph: rule " ++ (decimal rule ++ (codes " node " ++ decimal node))
+refusal_text NoEntry = codes "entry: NoEntry"
+refusal_text EntryNotClosed = codes "entry: EntryNotClosed"
 
 abbrev pub status_of : Refusal → Status
 status_of WordsNotUnderstood = status.Words
@@ -37,3 +39,5 @@ status_of NotBuilt = status.Refused
 status_of (Source line fault) = status.Refused
 status_of (Graph fault) = status.Refused
 status_of (Rule rule node) = status.Refused
+status_of NoEntry = status.Refused
+status_of EntryNotClosed = status.Refused

@@ -1,72 +1,79 @@
 //! The top call: what the program does for the words of its command line.
 
-ghost use Rattle.std.specs.Prelude.{◌≡◌, ◌≢◌, ◌⊎◌, ◌+◌, ◌<◌, ◌≤◌, ℕ, List, [], length, None};
+ghost use Rattle.std.specs.Prelude.{◌≡◌, ◌≢◌, ◌⊎◌, ℕ, List, [], None};
 ghost use Rattle.gp_base.specs.Outside.{Rose, IsMissing, Wrote};
-ghost use Rattle.gp_lower.specs.declared.thin_text.ThinLine.{ThinLine};
 ghost use Rattle.hg_graph.specs.Graph.{Graph};
+ghost use Rattle.hg_graph.specs.Ordered.{IsOrdered};
 ghost use Rattle.hg_graph.specs.Thin.{ThinGate};
-ghost use Rattle.gp_lower.specs.Thin.{gate_lines, complete_lines};
-ghost use Rattle.guppy_call.specs.Call.{Answer, seen, refused, done, Answered, Delivers, Settles};
-ghost use Rattle.guppy_call.specs.Compile.{source_limit, IsThin, IsNotThin, spent_lines, given_up_at, held_at_return_at, IsDue, IsGraphOf};
-ghost use Rattle.guppy_call.specs.Modes.{limit_of, IsDueIn};
-ghost use Rattle.guppy_call.specs.GraphTexts.{graph_text_limit};
-ghost use Rattle.guppy_call.specs.RunDue.{IsDueRun};
-ghost use Rattle.guppy_call.specs.Validity.{IsDueValidity};
-ghost use Rattle.guppy_call.specs.WordsFile.{Means, FileHolds, FileMissing, AnswersFile};
 ghost use Rattle.hg_json.specs.GraphText.{json};
-ghost use Rattle.guppy_call.specs.Words.{meaning_of};
-ghost use Rattle.guppy_call.specs.declared.words.Mode.{Mode};
+ghost use Rattle.hg_valid.specs.Runs.{KeepsPlaces, RunsEndWell};
+ghost use Rattle.gp_lower.specs.Thin.{complete_lines};
+ghost use Rattle.guppy_words.specs.Meaning as mode;
+ghost use Rattle.guppy_words.specs.Meaning.{Meaning, Running, meaning_of, file_read, request_view};
+ghost use Rattle.guppy_call.specs.Call.{Answer, seen, refused, done, Delivers, Settles};
+ghost use Rattle.guppy_call.specs.Compile.{IsThin, IsGraphOf};
+ghost use Rattle.guppy_call.specs.GraphTexts.{IsValidText};
+ghost use Rattle.guppy_call.specs.Modes.{limit_of, IsDueIn, IsRun};
+ghost use Rattle.guppy_call.specs.RunDue.{IsDueRun, under};
+ghost use Rattle.guppy_call.specs.WordsFile.{Means, FileHolds, FileMissing, RunsFile, AnswersFile};
 
+use crate::answer::answer;
 use crate::input::{InputError, read_input};
-use crate::mode_error::ModeError;
 use crate::output::refuse;
-use crate::product::{product_of, write_product};
 use crate::refusal::Refusal;
 use crate::status::Status;
-use crate::words::{Request, request_of};
-use gp_base::{Files, Names, Sink};
+use gp_base::{Files, Names, SOURCE_LIMIT, Sink};
+use guppy_words::{Request, WordsError, request_of};
+use hg_json::MAX_TEXT_BYTES;
 use std::alloc::Global;
 
-// Reads the input that a request names, makes of it what its mode says, and writes that.
+// The most bytes of an input.
+fn limit_of(request: &Request<'_>) -> usize
+    ensures { result ≡ limit_of (request_view request.now) }
+{
+    match request {
+        Request::Compile(_) => SOURCE_LIMIT,
+        Request::Validate(_) | Request::Migrate(_) | Request::Run(_, _) => MAX_TEXT_BYTES,
+    }
+}
+
+// Reads the input that a request names, and does with it what the request asks for.
 fn serve<F: Files, O: Sink, E: Sink>(
     alloc: Global,
-    request: Request<'_>,
+    request: &Request<'_>,
     files: &mut F,
     out: &mut O,
     err: &mut E,
 ) -> Status
-    ensures served { AnswersFile (IsDueIn request.entry.mode) (limit_of request.entry.mode)
-        (F.held files.old) request.entry.file.now
-        (seen result (F.faults files.old) (F.faults files.new)
-        (O.bytes out.old) (O.bytes out.new) (E.bytes err.old) (E.bytes err.new)) }
-    ensures read_fault { result ≡ Status.ReadFault
-        → Rose (F.faults files.old) (F.faults files.new) ⊎ IsMissing (F.held files.old) request.entry.file.now }
+    ensures served { AnswersFile
+        (IsDueIn (request_view request.now)) (limit_of (request_view request.now))
+        (F.faults files.old) (F.faults files.new)
+        (F.held files.old) (file_read (request_view request.now))
+        (seen result (O.bytes out.old) (O.bytes out.new) (E.bytes err.old) (E.bytes err.new)) }
+    ensures read_fault { result ≡ Status.ReadFault → Rose (F.faults files.old) (F.faults files.new)
+        ⊎ IsMissing (F.held files.old) (file_read (request_view request.now)) }
     ensures write_fault { result ≡ Status.WriteFault
         → Rose (O.faults out.old) (O.faults out.new) ⊎ Rose (E.faults err.old) (E.faults err.new) }
-    ensures memory { result ≡ Status.Memory
-        → Wrote (O.bytes out.old) (O.bytes out.new) [] × Wrote (E.bytes err.old) (E.bytes err.new) [] }
+    ensures memory { result ≡ Status.Memory → Wrote (E.bytes err.old) (E.bytes err.new) [] }
+    ensures memory_out { result ≡ Status.Memory
+        → IsRun (request_view request.now) ⊎ Wrote (O.bytes out.old) (O.bytes out.new) [] }
     ensures words { result ≢ Status.Words }
-    ensures stopped { result ≢ Status.Stopped }
+    ensures stopped { result ≡ Status.Stopped → IsRun (request_view request.now) }
 {
-    let text = match read_input(alloc, files, request.file, request.mode.limit()) {
-        Ok(text) => text,
-        Err(InputError::Failed) => return refuse(alloc, err, Refusal::ReadFault),
-        Err(InputError::Memory) => return Status::Memory,
-    };
-    match product_of(alloc, request.mode, &text) {
-        Ok(product) => write_product(alloc, &product, out),
-        Err(ModeError::Refused(refusal)) => refuse(alloc, err, refusal),
-        Err(ModeError::Memory) => Status::Memory,
+    match read_input(alloc, files, request.file(), limit_of(request)) {
+        Ok(text) => answer(alloc, request, &text, out, err),
+        Err(InputError::Failed) => refuse(alloc, err, Refusal::ReadFault),
+        Err(InputError::Memory) => Status::Memory,
     }
 }
 
 /// Does what the words of a command line mean, the program's name first, and answers the status for the
 /// process. It reads from `files`, writes what was asked for to `out`, and writes why it refuses to `err`.
 ///
-/// Three words have a meaning: any first one, `compile`, `validate` or `run`, and the name of a file, which isn't empty and
-/// doesn't begin with `-`. What the clauses say of a text, they say of the text that the words' file held
-/// at the start, where `files` tell their contents. A call that is refused writes nothing to `out`. Want of
-/// memory may take the place of any other answer.
+/// The words are those of one simple command of `clap`: a mode, maybe the name of a file, which else is `-`, and for `run` the
+/// options `--entry`, `--turns`, `--outcomes` and `--picks`. What the clauses say of a text, they say of the text that the
+/// words' file held at the start, where `files` tell their contents. A call that is refused writes nothing to `out`. Want of
+/// memory may take the place of any other answer, and may end a run at any place.
 pub fn guppy<F: Files, O: Sink, E: Sink>(
     alloc: Global,
     words: &Names,
@@ -76,8 +83,7 @@ pub fn guppy<F: Files, O: Sink, E: Sink>(
 ) -> Status
     // The words.
     ensures words { meaning_of words.now ≡ None → Delivers
-        (seen result (F.faults files.old) (F.faults files.new)
-        (O.bytes out.old) (O.bytes out.new) (E.bytes err.old) (E.bytes err.new))
+        (seen result (O.bytes out.old) (O.bytes out.new) (E.bytes err.old) (E.bytes err.new))
         (refused Refusal.WordsNotUnderstood) }
     ensures words_cause { result ≡ Status.Words → meaning_of words.now ≡ None }
 
@@ -85,77 +91,50 @@ pub fn guppy<F: Files, O: Sink, E: Sink>(
     ensures read_fault { result ≡ Status.ReadFault
         → Rose (F.faults files.old) (F.faults files.new) ⊎ FileMissing words.now (F.held files.old) }
     ensures missing { FileMissing words.now (F.held files.old) → Delivers
-        (seen result (F.faults files.old) (F.faults files.new)
-        (O.bytes out.old) (O.bytes out.new) (E.bytes err.old) (E.bytes err.new))
+        (seen result (O.bytes out.old) (O.bytes out.new) (E.bytes err.old) (E.bytes err.new))
         (refused Refusal.ReadFault) }
 
-    // `compile`: the five forms of a text, of which each text has exactly one.
-    ensures too_long { (text : List ℕ)
-        → FileHolds Mode.Compile words.now (F.held files.old) text → source_limit < length text → Settles
-        (seen result (F.faults files.old) (F.faults files.new)
-        (O.bytes out.old) (O.bytes out.new) (E.bytes err.old) (E.bytes err.new))
-        (refused Refusal.TooLong) }
-    ensures not_built { (text : List ℕ)
-        → FileHolds Mode.Compile words.now (F.held files.old) text → IsNotThin text → Settles
-        (seen result (F.faults files.old) (F.faults files.new)
-        (O.bytes out.old) (O.bytes out.new) (E.bytes err.old) (E.bytes err.new))
-        (refused Refusal.NotBuilt) }
-    ensures given_up { (text : List ℕ) (gates : List ThinGate) (next : ThinLine) (more : List ThinLine)
-        → FileHolds Mode.Compile words.now (F.held files.old) text → IsThin text (spent_lines gates next more)
-        → Settles
-        (seen result (F.faults files.old) (F.faults files.new)
-        (O.bytes out.old) (O.bytes out.new) (E.bytes err.old) (E.bytes err.new))
-        (refused (given_up_at (8 + length gates))) }
-    ensures held_at_return { (text : List ℕ) (gates : List ThinGate)
-        → FileHolds Mode.Compile words.now (F.held files.old) text → IsThin text (gate_lines gates) → Settles
-        (seen result (F.faults files.old) (F.faults files.new)
-        (O.bytes out.old) (O.bytes out.new) (E.bytes err.old) (E.bytes err.new))
-        (refused (held_at_return_at 5)) }
-    ensures compiled { (text : List ℕ) (gates : List ThinGate)
-        → FileHolds Mode.Compile words.now (F.held files.old) text → IsThin text (complete_lines gates)
-        → (g : Graph) × IsGraphOf gates g × Settles
-        (seen result (F.faults files.old) (F.faults files.new)
-        (O.bytes out.old) (O.bytes out.new) (E.bytes err.old) (E.bytes err.new))
+    // Each mode answers what is due for the text that its file holds; for each text that is exactly one answer.
+    ensures answers { (meaning : Meaning) (text : List ℕ) (answer : Answer)
+        → FileHolds meaning words.now (F.held files.old) text → IsDueIn meaning text answer
+        → Settles (F.faults files.old) (F.faults files.new)
+        (seen result (O.bytes out.old) (O.bytes out.new) (E.bytes err.old) (E.bytes err.new))
+        answer }
+    // It does so over any files, also such as don't tell their contents.
+    ensures any_files { (meaning : Meaning) → Means words.now meaning
+        → AnswersFile (IsDueIn meaning) (limit_of meaning)
+        (F.faults files.old) (F.faults files.new) (F.held files.old) (file_read meaning)
+        (seen result (O.bytes out.old) (O.bytes out.new) (E.bytes err.old) (E.bytes err.new)) }
+
+    // What `compile` writes is a graph whose runs are those of the source.
+    ensures compiled { (file text : List ℕ) (gates : List ThinGate)
+        → FileHolds (mode.compile file) words.now (F.held files.old) text
+        → IsThin text (complete_lines gates)
+        → (g : Graph) × IsGraphOf gates g × Settles (F.faults files.old) (F.faults files.new)
+        (seen result (O.bytes out.old) (O.bytes out.new) (E.bytes err.old) (E.bytes err.new))
         (done (json g)) }
 
-    // `validate`: its four forms of a graph text, of which each text has exactly one.
-    ensures validate { (text : List ℕ) (answer : Answer)
-        → FileHolds Mode.Validate words.now (F.held files.old) text → IsDueValidity text answer → Settles
-        (seen result (F.faults files.old) (F.faults files.new)
-        (O.bytes out.old) (O.bytes out.new) (E.bytes err.old) (E.bytes err.new))
+    // In a run of a valid graph each qubit has one place at each step, and no run is stuck. Where the graph is ordered too,
+    // what is due for a run under any other picks is answered as well: the trace is the same for all picks.
+    ensures places { (text : List ℕ) (g : Graph) → IsValidText text g → KeepsPlaces g × RunsEndWell g }
+    ensures picks { (file text : List ℕ) (running : Running) (g : Graph) (picks : List ℕ) (answer : Answer)
+        → FileHolds (mode.run file running) words.now (F.held files.old) text
+        → IsValidText text g → IsOrdered g → IsDueRun (under picks running) text answer
+        → Settles (F.faults files.old) (F.faults files.new)
+        (seen result (O.bytes out.old) (O.bytes out.new) (E.bytes err.old) (E.bytes err.new))
         answer }
 
-    // `run`: the four forms of a graph text, of which each text has exactly one.
-    ensures run { (text : List ℕ) (answer : Answer)
-        → FileHolds Mode.Run words.now (F.held files.old) text → IsDueRun text answer → Settles
-        (seen result (F.faults files.old) (F.faults files.new)
-        (O.bytes out.old) (O.bytes out.new) (E.bytes err.old) (E.bytes err.new))
-        answer }
-
-    // Each over any files, also such as don't tell their contents.
-    ensures any_files { (file : List ℕ)
-        → Means words.now Mode.Compile file → AnswersFile IsDue source_limit (F.held files.old) file
-        (seen result (F.faults files.old) (F.faults files.new)
-        (O.bytes out.old) (O.bytes out.new) (E.bytes err.old) (E.bytes err.new)) }
-    ensures validate_any_files { (file : List ℕ)
-        → Means words.now Mode.Validate file
-        → AnswersFile IsDueValidity graph_text_limit (F.held files.old) file
-        (seen result (F.faults files.old) (F.faults files.new)
-        (O.bytes out.old) (O.bytes out.new) (E.bytes err.old) (E.bytes err.new)) }
-    ensures run_any_files { (file : List ℕ)
-        → Means words.now Mode.Run file → AnswersFile IsDueRun graph_text_limit (F.held files.old) file
-        (seen result (F.faults files.old) (F.faults files.new)
-        (O.bytes out.old) (O.bytes out.new) (E.bytes err.old) (E.bytes err.new)) }
-
-    // Writing and memory.
+    // Writing, memory and stops. Want of memory writes nothing to `err`, and to `out` only the front of a run's trace.
     ensures write_fault { result ≡ Status.WriteFault
         → Rose (O.faults out.old) (O.faults out.new) ⊎ Rose (E.faults err.old) (E.faults err.new) }
-    ensures memory { result ≡ Status.Memory
-        → Wrote (O.bytes out.old) (O.bytes out.new) [] × Wrote (E.bytes err.old) (E.bytes err.new) [] }
-    ensures stopped { result ≢ Status.Stopped }
+    ensures memory { result ≡ Status.Memory → Wrote (E.bytes err.old) (E.bytes err.new) [] }
+    ensures memory_out { result ≡ Status.Memory
+        → RunsFile words.now ⊎ Wrote (O.bytes out.old) (O.bytes out.new) [] }
+    ensures stopped { result ≡ Status.Stopped → RunsFile words.now }
 {
-    let Some(request) = request_of(words) else {
-        return refuse(alloc, err, Refusal::WordsNotUnderstood);
-    };
-    serve(alloc, request, files, out, err)
+    match request_of(alloc, words) {
+        Ok(request) => serve(alloc, &request, files, out, err),
+        Err(WordsError::NoMeaning) => refuse(alloc, err, Refusal::WordsNotUnderstood),
+        Err(WordsError::Memory) => Status::Memory,
+    }
 }

@@ -1,6 +1,6 @@
 //! Laws of the answers: functions without parameters, whose contracts are the laws.
 
-ghost use Rattle.guppy_call.specs.OneAnswer.{TextsHaveOneAnswer, GraphTextsHaveOneAnswer, GraphTextsHaveOneValidity};
+ghost use Rattle.guppy_call.specs.OneAnswer.{TextsHaveOneAnswer, GraphTextsHaveOneValidity, GraphTextsHaveOneMigration, GraphTextsHaveOneRun};
 
 /// Each source text has exactly one of its five forms, and exactly one answer of `compile` is due for it.
 #[tactic(auto, using(crate::proofs::OneAnswer::texts_have_one_answer))]
@@ -8,14 +8,20 @@ pub fn texts_have_one_answer()
     ensures { TextsHaveOneAnswer }
 {}
 
-/// Each graph text has exactly one of its four forms, and exactly one answer of `run` is due for it.
-#[tactic(auto, using(crate::proofs::OneAnswer::graph_texts_have_one_answer))]
-pub fn graph_texts_have_one_answer()
-    ensures { GraphTextsHaveOneAnswer }
-{}
-
 /// Each graph text has exactly one of its four forms for `validate`, and exactly one answer of it is due.
 #[tactic(auto, using(crate::proofs::ValidTexts::graph_texts_have_one_validity))]
 pub fn graph_texts_have_one_validity()
     ensures { GraphTextsHaveOneValidity }
+{}
+
+/// Each graph text has exactly one of its four forms for `migrate`, and exactly one answer of it is due.
+#[tactic(auto, using(crate::proofs::GraphModes::graph_texts_have_one_migration))]
+pub fn graph_texts_have_one_migration()
+    ensures { GraphTextsHaveOneMigration }
+{}
+
+/// Each graph text has exactly one of its six forms for `run`, and exactly one answer of it is due, whatever the options.
+#[tactic(auto, using(crate::proofs::GraphModes::graph_texts_have_one_run))]
+pub fn graph_texts_have_one_run()
+    ensures { GraphTextsHaveOneRun }
 {}

@@ -2,18 +2,18 @@
 //! hands it those of the system; tables of calls hand it files and sinks in memory.
 #![tactic(auto)]
 
+mod answer;
 mod call;
 mod compile;
 pub mod input;
 pub mod laws;
+mod migrate;
 mod mode_error;
 mod output;
-mod product;
 mod refusal;
 mod run;
 pub mod status;
 mod validity;
-mod words;
 
 pub use call::guppy;
 pub use input::{InputError, read_input};

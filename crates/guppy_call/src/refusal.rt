@@ -79,6 +79,10 @@ pub enum Refusal {
     Graph(GraphFault),
     /// The graph breaks the rule of this number, from 1 to 15, at the node of this number.
     Rule(u8, u64),
+    /// The graph has no function of the name that is to be run.
+    NoEntry,
+    /// The function that is to be run has inputs, or a linear output.
+    EntryNotClosed,
 }
 
 impl fmt::Display for Refusal {
@@ -102,6 +106,8 @@ impl fmt::Display for Refusal {
                 let (rule, node) = (*rule, *node);
                 write!(f, "graph: rule {rule} node {node}")
             }
+            Refusal::NoEntry => f.write_str("entry: NoEntry"),
+            Refusal::EntryNotClosed => f.write_str("entry: EntryNotClosed"),
         }
     }
 }
@@ -118,7 +124,9 @@ impl Refusal {
             | Refusal::NotBuilt
             | Refusal::Source(_, _)
             | Refusal::Graph(_)
-            | Refusal::Rule(_, _) => Status::Refused,
+            | Refusal::Rule(_, _)
+            | Refusal::NoEntry
+            | Refusal::EntryNotClosed => Status::Refused,
         }
     }
 }

@@ -9,6 +9,7 @@ pub mod Flags
 pub mod Kept
 pub mod Placing
 pub mod OrderScans
+pub mod Buffered
 pub mod Callees
 pub mod Found
 pub mod DueLists

@@ -1,4 +1,5 @@
 -- What follows the code: no public contract cites it.
+pub mod Buffering
 pub mod ChosenView
 pub mod Due
 pub mod EntryView
@@ -9,6 +10,7 @@ pub mod Kinds
 pub mod Leaves
 pub mod Left
 pub mod Orders
+pub mod Shapes
 pub mod StateView
 pub mod Stepped
 pub mod TablesView

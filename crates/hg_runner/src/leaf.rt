@@ -9,7 +9,9 @@ ghost use Rattle.hg_graph.specs.Run as run;
 ghost use Rattle.hg_graph.specs.Valid.{KeepsTags};
 ghost use Rattle.hg_ops.specs.OpView.{op_view};
 ghost use Rattle.hg_runner.specs.code.Kinds.{calculation_view, division_view, comparison_view};
-ghost use Rattle.hg_runner.specs.code.Leaves.{int_result_run, bool_result_run, calculation_run, division_run, negation_run, comparison_run, not_run, bool_run, tag_run, unpack_run};
+ghost use Rattle.hg_runner.specs.code.Leaves.{int_result_run, bool_result_run, tag_run, unpack_run};
+ghost use Rattle.hg_runner.specs.code.Leaves.{calculation_run, division_run, negation_run};
+ghost use Rattle.hg_runner.specs.code.Leaves.{comparison_run, not_run, bool_run, DoesStill};
 ghost use Rattle.hg_runner.specs.code.Stepped.{Does};
 
 use crate::arithmetic::{
@@ -28,7 +30,7 @@ use std::alloc::{AllocError, Global};
 
 // Makes a variant of a Sum.
 fn tag(alloc: Global, number: u64, ins: Values, machine: &Machine) -> Result<Done, AllocError>
-    ensures { IfOk result (λ how. Does (tag_run number ins) machine.now how machine.now) }
+    ensures { DoesStill (tag_run number ins) machine.now result }
 {
     let mut outs = Values::new(alloc);
     outs.push(Value::Variant(number, ins))?;
@@ -37,7 +39,7 @@ fn tag(alloc: Global, number: u64, ins: Values, machine: &Machine) -> Result<Don
 
 // Gives the values of a Sum of one row.
 fn unpack(ins: Values, machine: &Machine) -> Result<Done, AllocError>
-    ensures { IfOk result (λ how. Does (unpack_run ins) machine.now how machine.now) }
+    ensures { DoesStill (unpack_run ins) machine.now result }
 {
     if ins.as_slice().len() != 1 {
         return Ok(Done::Halts(Halt::Stuck));
@@ -62,7 +64,7 @@ fn report_int(
     machine: &Machine,
 ) -> Result<Done, AllocError>
     requires { IsTag name.now }
-    ensures { IfOk result (λ how. Does (int_result_run name.now ins.now) machine.now how machine.now) }
+    ensures { DoesStill (int_result_run name.now ins.now) machine.now result }
 {
     match (one_int(ins), Tag::new(alloc, name.as_str().as_bytes())?) {
         (Some(number), Some(tag)) => Ok(Done::Gives(
@@ -81,7 +83,7 @@ fn report_bool(
     machine: &Machine,
 ) -> Result<Done, AllocError>
     requires { IsTag name.now }
-    ensures { IfOk result (λ how. Does (bool_result_run name.now ins.now) machine.now how machine.now) }
+    ensures { DoesStill (bool_result_run name.now ins.now) machine.now result }
 {
     match (one_bool(ins), Tag::new(alloc, name.as_str().as_bytes())?) {
         (Some(truth), Some(tag)) => Ok(Done::Gives(
@@ -99,7 +101,8 @@ fn calculate(
     ins: &Values,
     machine: &Machine,
 ) -> Result<Done, AllocError>
-    ensures { IfOk result (λ how. Does (calculation_run (run.calculated (calculation_view which)) ins.now) machine.now how machine.now) }
+    ensures { DoesStill (calculation_run (run.calculated (calculation_view which)) ins.now)
+        machine.now result }
 {
     match two_ints(ins) {
         None => Ok(Done::Halts(Halt::Stuck)),
@@ -114,7 +117,7 @@ fn divide(
     ins: &Values,
     machine: &Machine,
 ) -> Result<Done, AllocError>
-    ensures { IfOk result (λ how. Does (division_run (division_view which) ins.now) machine.now how machine.now) }
+    ensures { DoesStill (division_run (division_view which) ins.now) machine.now result }
 {
     match two_ints(ins) {
         None => Ok(Done::Halts(Halt::Stuck)),
@@ -130,7 +133,7 @@ fn divide(
 
 // Turns the sign of a number round.
 fn negate(alloc: Global, ins: &Values, machine: &Machine) -> Result<Done, AllocError>
-    ensures { IfOk result (λ how. Does (negation_run numbers.negated ins.now) machine.now how machine.now) }
+    ensures { DoesStill (negation_run numbers.negated ins.now) machine.now result }
 {
     match one_int(ins) {
         None => Ok(Done::Halts(Halt::Stuck)),
@@ -145,7 +148,8 @@ fn compare(
     ins: &Values,
     machine: &Machine,
 ) -> Result<Done, AllocError>
-    ensures { IfOk result (λ how. Does (comparison_run (run.compared (comparison_view which)) ins.now) machine.now how machine.now) }
+    ensures { DoesStill (comparison_run (run.compared (comparison_view which)) ins.now)
+        machine.now result }
 {
     match two_ints(ins) {
         None => Ok(Done::Halts(Halt::Stuck)),
@@ -155,7 +159,7 @@ fn compare(
 
 // Turns a truth value round.
 fn turn_round(alloc: Global, ins: &Values, machine: &Machine) -> Result<Done, AllocError>
-    ensures { IfOk result (λ how. Does (not_run not ins.now) machine.now how machine.now) }
+    ensures { DoesStill (not_run not ins.now) machine.now result }
 {
     match one_bool(ins) {
         None => Ok(Done::Halts(Halt::Stuck)),
@@ -165,7 +169,7 @@ fn turn_round(alloc: Global, ins: &Values, machine: &Machine) -> Result<Done, Al
 
 // Whether two truth values are equal.
 fn are_same(alloc: Global, ins: &Values, machine: &Machine) -> Result<Done, AllocError>
-    ensures { IfOk result (λ how. Does (bool_run same_truth ins.now) machine.now how machine.now) }
+    ensures { DoesStill (bool_run same_truth ins.now) machine.now result }
 {
     match two_bools(ins) {
         None => Ok(Done::Halts(Halt::Stuck)),
@@ -175,7 +179,7 @@ fn are_same(alloc: Global, ins: &Values, machine: &Machine) -> Result<Done, Allo
 
 // Whether two truth values differ.
 fn differ(alloc: Global, ins: &Values, machine: &Machine) -> Result<Done, AllocError>
-    ensures { IfOk result (λ how. Does (bool_run (λ a b. not (same_truth a b)) ins.now) machine.now how machine.now) }
+    ensures { DoesStill (bool_run (λ a b. not (same_truth a b)) ins.now) machine.now result }
 {
     match two_bools(ins) {
         None => Ok(Done::Halts(Halt::Stuck)),

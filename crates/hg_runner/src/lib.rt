@@ -9,6 +9,7 @@ mod firings;
 mod followers;
 mod functions;
 mod leaf;
+mod line_buffer;
 mod named;
 mod picking;
 mod qubits;

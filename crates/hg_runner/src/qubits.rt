@@ -1,14 +1,12 @@
 //! Ops on qubits.
 
-ghost use Rattle.std.specs.Prelude.{◌≡◌, true, List, [], ◌∷◌, slice_get, IfOk};
-ghost use Rattle.gp_base.specs.Run.{Returned};
-ghost use Rattle.gp_base.specs.World.{is_live, are_two_live, are_three_live, ended, with_outcome, did};
-ghost use Rattle.gp_base.specs.declared.event.Event.TheVariants as event;
+ghost use Rattle.std.specs.Prelude.{◌≡◌, true, slice_get, IfOk};
+ghost use Rattle.gp_base.specs.World.{is_live, are_two_live, are_three_live, ended};
 ghost use Rattle.hg_graph.specs.Run.{perform_extension};
-ghost use Rattle.hg_graph.specs.Value as spec;
-ghost use Rattle.hg_graph.specs.Value.{truth};
 ghost use Rattle.hg_ops.specs.Op.{Alloc};
-ghost use Rattle.hg_runner.specs.code.Leaves.{gate_run, two_run, three_run, rotation_run, reset_run, free_run, measure_run, measure_free_run};
+ghost use Rattle.hg_runner.specs.code.Leaves.{gate_run, two_run, three_run, rotation_run};
+ghost use Rattle.hg_runner.specs.code.Leaves.{reset_run, free_run, measure_run, measure_free_run};
+ghost use Rattle.hg_runner.specs.code.Leaves.{outcome_run, last_outcome_run, DoesStill};
 ghost use Rattle.hg_runner.specs.code.Stepped.{Does};
 
 use crate::shapes::{of_truth, one_qubit, qubit_and_angle, three_qubits, two_qubits};
@@ -131,7 +129,7 @@ pub fn rotate(
     ins: Values,
     machine: &Machine,
 ) -> Result<Done, AllocError>
-    ensures { IfOk result (λ how. Does (rotation_run name ins) machine.now how machine.now) }
+    ensures { DoesStill (rotation_run name ins) machine.now result }
 {
     match qubit_and_angle(&ins) {
         None => Ok(Done::Halts(Halt::Stuck)),
@@ -181,7 +179,7 @@ pub fn free(alloc: Global, ins: Values, machine: &mut Machine) -> Done
 
 // Measures a live qubit, where an outcome is left.
 fn take_outcome(alloc: Global, q: u64, machine: &mut Machine) -> Result<Done, AllocError>
-    ensures { IfOk result (λ how. Does (with_outcome (λ outcome w. Returned (spec.Qubit q ∷ truth outcome ∷ []) (did (event.Measure q outcome) w))) machine.old how machine.new) }
+    ensures { IfOk result (λ how. Does (outcome_run q) machine.old how machine.new) }
 {
     match machine.outcomes.pop_front() {
         None => Ok(Done::Halts(Halt::OutcomesUsed)),
@@ -213,7 +211,7 @@ pub fn measure(alloc: Global, ins: Values, machine: &mut Machine) -> Result<Done
 // Measures a live qubit, where an outcome is left, and ends it.
 fn take_last_outcome(alloc: Global, q: u64, machine: &mut Machine) -> Result<Done, AllocError>
     requires { is_live machine.old.flags.items q ≡ true }
-    ensures { IfOk result (λ how. Does (with_outcome (λ outcome w. Returned (truth outcome ∷ []) (did (event.MeasureFree q outcome) (record w { flags = ended w.flags q })))) machine.old how machine.new) }
+    ensures { IfOk result (λ how. Does (last_outcome_run q) machine.old how machine.new) }
 {
     match machine.outcomes.pop_front() {
         None => Ok(Done::Halts(Halt::OutcomesUsed)),

@@ -14,7 +14,8 @@ use hg_ops::{OpKind, input_count, output_count};
 /// The op of a node, where there is such a node.
 #[tactic(auto, unfolding(hg_graph::specs::Graph::op_at))]
 pub fn op_of(graph: &Graph, node: NodeId) -> Option<&OpKind>
-    ensures { MatchOption result (op_at graph.now node.0 ≡ Module) (λ op. op_view op.now ≡ op_at graph.now node.0) }
+    ensures { MatchOption result (op_at graph.now node.0 ≡ Module)
+        (λ op. op_view op.now ≡ op_at graph.now node.0) }
 {
     if node.0 < graph.node_count() {
         Some(graph.op(node))

@@ -1,12 +1,12 @@
 //! Values taken apart, by the kinds that an op takes.
 
-ghost use Rattle.std.specs.Prelude.{◌≡◌, ℕ, ℤ, Bool, List, [], ◌∷◌, MatchOption, IfOk};
+ghost use Rattle.std.specs.Prelude.{◌≡◌, [], ◌∷◌, MatchOption, IfOk};
 ghost use Rattle.std.specs.Option.{option_map};
-ghost use Rattle.gp_base.specs.Run.{Run, Stopped, Stuck};
-ghost use Rattle.gp_base.specs.World.{World};
-ghost use Rattle.hg_graph.specs.Run.{with_qubit, with_two_qubits, with_three_qubits, with_angle, with_int, with_two_ints, with_bool, with_two_bools, with_tuple};
+ghost use Rattle.hg_graph.specs.Run.{with_qubit, with_two_qubits, with_three_qubits, with_angle};
+ghost use Rattle.hg_graph.specs.Run.{with_int, with_two_ints, with_bool, with_two_bools};
 ghost use Rattle.hg_graph.specs.Value as spec;
 ghost use Rattle.hg_graph.specs.Value.{truth_of};
+ghost use Rattle.hg_runner.specs.code.Shapes.{IsRefused, Takes, TakesTwo};
 ghost use Rattle.hg_runner.specs.code.ValueView.{value_view};
 
 use crate::value::{Value, Values};
@@ -14,7 +14,8 @@ use std::alloc::{AllocError, Global};
 
 /// The qubit, where the values are one qubit.
 pub fn one_qubit(ins: &Values) -> Option<u64>
-    ensures { MatchOption result ((k : ℕ → Run World (List spec.Value)) (w : World) → with_qubit ins.now k w ≡ Stopped Stuck w) (λ q. ins.now ≡ spec.Qubit q ∷ []) }
+    ensures { MatchOption result (IsRefused (with_qubit ins.now))
+        (λ q. ins.now ≡ spec.Qubit q ∷ []) }
 {
     match ins.as_slice() {
         [Value::Qubit(q)] => Some(*q),
@@ -24,7 +25,8 @@ pub fn one_qubit(ins: &Values) -> Option<u64>
 
 /// Two qubits, where the values are two qubits.
 pub fn two_qubits(ins: &Values) -> Option<(u64, u64)>
-    ensures { MatchOption result ((k : ℕ → ℕ → Run World (List spec.Value)) (w : World) → with_two_qubits ins.now k w ≡ Stopped Stuck w) (λ p. ins.now ≡ spec.Qubit p.0 ∷ spec.Qubit p.1 ∷ []) }
+    ensures { MatchOption result (IsRefused (with_two_qubits ins.now))
+        (λ p. ins.now ≡ spec.Qubit p.0 ∷ spec.Qubit p.1 ∷ []) }
 {
     match ins.as_slice() {
         [Value::Qubit(p), Value::Qubit(q)] => Some((*p, *q)),
@@ -34,7 +36,8 @@ pub fn two_qubits(ins: &Values) -> Option<(u64, u64)>
 
 /// Three qubits, where the values are three qubits.
 pub fn three_qubits(ins: &Values) -> Option<(u64, u64, u64)>
-    ensures { MatchOption result ((k : ℕ → ℕ → ℕ → Run World (List spec.Value)) (w : World) → with_three_qubits ins.now k w ≡ Stopped Stuck w) (λ p. ins.now ≡ spec.Qubit p.0 ∷ spec.Qubit p.1 ∷ spec.Qubit p.2 ∷ []) }
+    ensures { MatchOption result (IsRefused (with_three_qubits ins.now))
+        (λ p. ins.now ≡ spec.Qubit p.0 ∷ spec.Qubit p.1 ∷ spec.Qubit p.2 ∷ []) }
 {
     match ins.as_slice() {
         [Value::Qubit(p), Value::Qubit(q), Value::Qubit(r)] => Some((*p, *q, *r)),
@@ -44,7 +47,8 @@ pub fn three_qubits(ins: &Values) -> Option<(u64, u64, u64)>
 
 /// A qubit and an angle.
 pub fn qubit_and_angle(ins: &Values) -> Option<(u64, i64)>
-    ensures { MatchOption result ((k : ℕ → ℤ → Run World (List spec.Value)) (w : World) → with_angle ins.now k w ≡ Stopped Stuck w) (λ p. ins.now ≡ spec.Qubit p.0 ∷ spec.Int p.1 ∷ []) }
+    ensures { MatchOption result (IsRefused (with_angle ins.now))
+        (λ p. ins.now ≡ spec.Qubit p.0 ∷ spec.Int p.1 ∷ []) }
 {
     match ins.as_slice() {
         [Value::Qubit(q), Value::Int(a)] => Some((*q, *a)),
@@ -54,7 +58,7 @@ pub fn qubit_and_angle(ins: &Values) -> Option<(u64, i64)>
 
 /// A number.
 pub fn one_int(ins: &Values) -> Option<i64>
-    ensures { MatchOption result ((k : ℤ → Run World (List spec.Value)) (w : World) → with_int ins.now k w ≡ Stopped Stuck w) (λ n. ins.now ≡ spec.Int n ∷ []) }
+    ensures { MatchOption result (IsRefused (with_int ins.now)) (λ n. ins.now ≡ spec.Int n ∷ []) }
 {
     match ins.as_slice() {
         [Value::Int(n)] => Some(*n),
@@ -64,7 +68,8 @@ pub fn one_int(ins: &Values) -> Option<i64>
 
 /// Two numbers.
 pub fn two_ints(ins: &Values) -> Option<(i64, i64)>
-    ensures { MatchOption result ((k : ℤ → ℤ → Run World (List spec.Value)) (w : World) → with_two_ints ins.now k w ≡ Stopped Stuck w) (λ p. ins.now ≡ spec.Int p.0 ∷ spec.Int p.1 ∷ []) }
+    ensures { MatchOption result (IsRefused (with_two_ints ins.now))
+        (λ p. ins.now ≡ spec.Int p.0 ∷ spec.Int p.1 ∷ []) }
 {
     match ins.as_slice() {
         [Value::Int(a), Value::Int(b)] => Some((*a, *b)),
@@ -107,7 +112,7 @@ fn truth_of(value: &Value) -> Option<bool>
 
 /// A truth value.
 pub fn one_bool(ins: &Values) -> Option<bool>
-    ensures { MatchOption result ((k : Bool → Run World (List spec.Value)) (w : World) → with_bool ins.now k w ≡ Stopped Stuck w) (λ b. (k : Bool → Run World (List spec.Value)) (w : World) → with_bool ins.now k w ≡ k b w) }
+    ensures { MatchOption result (IsRefused (with_bool ins.now)) (Takes (with_bool ins.now)) }
 {
     match ins.as_slice() {
         [value] => truth_of(value),
@@ -117,7 +122,8 @@ pub fn one_bool(ins: &Values) -> Option<bool>
 
 /// Two truth values.
 pub fn two_bools(ins: &Values) -> Option<(bool, bool)>
-    ensures { MatchOption result ((k : Bool → Bool → Run World (List spec.Value)) (w : World) → with_two_bools ins.now k w ≡ Stopped Stuck w) (λ p. (k : Bool → Bool → Run World (List spec.Value)) (w : World) → with_two_bools ins.now k w ≡ k p.0 p.1 w) }
+    ensures { MatchOption result (IsRefused (with_two_bools ins.now))
+        (λ p. TakesTwo (with_two_bools ins.now) p.0 p.1) }
 {
     match ins.as_slice() {
         [first, second] => match (truth_of(first), truth_of(second)) {

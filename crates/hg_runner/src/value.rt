@@ -60,7 +60,8 @@ impl Model for Values {
 }
 
 impl Values {
-    ghost use Rattle.std.specs.Prelude.{◌≡◌, ◌∷◌, ◌++◌, [], map, slice_get, IfOk, OnOk, IfSome, MatchOption};
+    ghost use Rattle.std.specs.Prelude.{◌≡◌, ◌∷◌, ◌++◌, [], map, slice_get};
+    ghost use Rattle.std.specs.Prelude.{IfOk, OnOk, IfSome, MatchOption};
     ghost use Rattle.std.specs.Option.{option_copied, option_map};
     ghost use Rattle.hg_graph.specs.Value.{values, packed};
     ghost use Rattle.hg_graph.specs.Value as spec;
@@ -91,8 +92,8 @@ impl Values {
         self.values.as_slice()
     }
 
-    /// Takes the first value apart, which has to be a variant: its number, and the values of its row followed by the
-    /// other values. None where it isn't one.
+    /// Takes the first value apart, which has to be a variant: its number, and the values of its
+    /// row followed by the other values. None where it isn't one.
     pub fn choose(self) -> Result<Option<Chosen>, AllocError>
         ensures { IfOk result (λ found. option_map chosen_view found ≡ variant_of self) }
     {
@@ -109,7 +110,8 @@ impl Values {
         }
     }
 
-    /// Takes the first value apart, which has to be a function: its name, and the other values. None where it isn't one.
+    /// Takes the first value apart, which has to be a function: its name, and the other values.
+    /// None where it isn't one.
     pub fn called(self) -> Option<Called>
         ensures { option_map called_view result ≡ function_of self }
     {

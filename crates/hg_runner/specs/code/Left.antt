@@ -10,6 +10,7 @@ use Rattle.hg_ops.specs.Op.{Types, FuncDefn}
 use Rattle.hg_runner.specs.declared.state.Frame.{Frame as DeclaredFrame}
 use Rattle.hg_runner.specs.declared.state.Task.{Task as DeclaredTask}
 use Rattle.hg_runner.specs.declared.state.Machine.{Machine}
+use Rattle.hg_runner.specs.Told.{trace_of}
 use Rattle.hg_runner.specs.code.StateView.{frame_list, task_view, plain}
 use Rattle.hg_steps.specs.Machine.{Config, left_run}
 
@@ -31,3 +32,7 @@ config_of task frames = record { task = task_view task; frames = frame_list fram
 -- the run that is left, behind these events
 abbrev pub out_of : Graph → DeclaredTask → List DeclaredFrame → Machine → List Event → Out World (List Value)
 out_of g task frames m events = world_out (left_run g (config_of task frames) (plain m events))
+
+-- and its trace
+abbrev pub left_trace : Graph → DeclaredTask → List DeclaredFrame → Machine → List ℕ
+left_trace g task frames m = trace_of (out_of g task frames m [])

@@ -32,6 +32,11 @@ def names(size):
     return "".join(function(f"f{k}", row) for k in range(size // 1410))
 
 
+def unchanged(size):
+    """As many names as may be usable at once, and as many assignments that change none of their types as there is room for."""
+    return function("main", [f"a{k} = {k}" for k in range(127)] + ["x = 1"] + ["x = x"] * ((size - 2000) // 10))
+
+
 def functions(size):
     """As many functions as there is room for, each of which calls the one before it."""
     made = [function("f0", ["pass"])]
@@ -69,7 +74,7 @@ def main():
         sys.exit("bench: build gp_bench first, by rt run in crates/gp_bench")
     print("       text    bytes  seconds  us/byte    MiB  growth")
     grown = []
-    for shape in (lines, names, functions, long_field, deep_tuples):
+    for shape in (lines, names, unchanged, functions, long_field, deep_tuples):
         before = None
         for size in (LIMIT // 2 - 1024, LIMIT - 2048):
             text = shape(size)

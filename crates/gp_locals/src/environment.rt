@@ -1,16 +1,17 @@
 //! The types that the names of a function have at some place of its text.
 
-ghost use Rattle.std.specs.Prelude.{◌≡◌, Some, IfOk, OnOk, map};
+ghost use Rattle.std.specs.Prelude.{◌≡◌, Some, IfOk, OnOk};
 ghost use Rattle.gp_types.specs.View.{ty_view};
 ghost use Rattle.gp_locals.specs.Environment as spec;
-ghost use Rattle.gp_locals.specs.View.{found_view, name_view};
+ghost use Rattle.gp_locals.specs.View.{found_view};
 
 use crate::limit::TOTAL_SIZE_LIMIT;
 use crate::locals::Locals;
-use crate::name_type::NameTypes;
 use crate::usable::{
-    UsableName, are_kept, by_names, copy_usable, join_usable, put_among, sizes, type_among,
+    SharedNames, UsableName, are_kept, copy_shared, copy_usable, is_given, join_usable, one_with,
+    put_among, share, sizes, type_among,
 };
+use crate::usable_names::UsableNames;
 use gp_types::Ty;
 use std::alloc::{AllocError, Global};
 use std::marker::Model;
@@ -23,13 +24,15 @@ pub struct Environment {
     count: usize,
     // The usable ones among them.
     usable: Vec<UsableName>,
+    // The same list as those places share it that nothing changes between; none where it isn't made yet.
+    shared: Option<SharedNames>,
 }
 
 impl Model for Environment {
-    ghost use Rattle.std.specs.Prelude.{map};
+    ghost use Rattle.std.specs.Prelude.{◌≡◌, IfSome, map};
     ghost use Rattle.gp_locals.specs.Environment as spec;
     ghost use Rattle.gp_locals.specs.code.Usable.{spread, IsListed};
-    ghost use Rattle.gp_locals.specs.code.UsableView.{usable_view};
+    ghost use Rattle.gp_locals.specs.code.UsableView.{usable_view, shared_view};
     ghost use Rattle.gp_locals.specs.code.TypeCode.{coded_types};
 
     ghost Value = { spec.Environment };
@@ -38,7 +41,8 @@ impl Model for Environment {
 
     ghost view = { λ e. spread 0 e.count (map usable_view e.usable.items) };
 
-    ghost invariant = { λ e. IsListed e.count (map usable_view e.usable.items) };
+    ghost invariant = { λ e. IsListed e.count (map usable_view e.usable.items)
+        × IfSome (shared_view e.shared) (λ listed. listed ≡ map usable_view e.usable.items) };
 }
 
 /// What an environment says of a name.
@@ -59,6 +63,7 @@ impl Environment {
         Environment {
             count: names.as_slice().len(),
             usable: Vec::new(alloc),
+            shared: None,
         }
     }
 
@@ -85,6 +90,10 @@ impl Environment {
         if position >= self.count {
             return Ok(());
         }
+        if is_given(&self.usable, position, &ty) {
+            return Ok(());
+        }
+        self.shared = None;
         put_among(&mut self.usable, position, ty)
     }
 
@@ -95,6 +104,7 @@ impl Environment {
         Ok(Environment {
             count: self.count,
             usable: copy_usable(alloc, &self.usable)?,
+            shared: copy_shared(&self.shared)?,
         })
     }
 
@@ -102,9 +112,12 @@ impl Environment {
     pub fn join(&self, alloc: Global, others: &Environment) -> Result<Environment, AllocError>
         ensures { IfOk result (λ joined. joined ≡ spec.join self.now others.now) }
     {
+        let usable = join_usable(alloc, &self.usable, &others.usable)?;
+        let shared = one_with(&usable, &self.shared, &others.shared)?;
         Ok(Environment {
             count: self.count,
-            usable: join_usable(alloc, &self.usable, &others.usable)?,
+            usable,
+            shared,
         })
     }
 
@@ -122,10 +135,12 @@ impl Environment {
         sizes(&self.usable) <= TOTAL_SIZE_LIMIT
     }
 
-    /// The usable names with their types, in the order of the names.
-    pub fn usable(&self, alloc: Global, names: &Locals) -> Result<NameTypes, AllocError>
-        ensures { IfOk result (λ listed. map name_view listed ≡ spec.usable names.now self.now) }
+    /// The usable names with their types, in the order of the names. Takes memory only for the first time after a change.
+    pub fn usable(&mut self, alloc: Global, names: &Locals) -> Result<UsableNames, AllocError>
+        ensures listed { IfOk result (λ listed. listed ≡ spec.usable names.now self.old) }
+        ensures unchanged { self.new ≡ self.old }
     {
-        by_names(alloc, names.as_slice(), &self.usable)
+        let usable = share(alloc, &mut self.shared, &self.usable)?;
+        Ok(UsableNames::new(names.shared()?, usable))
     }
 }

@@ -4,11 +4,13 @@
 
 mod callee;
 mod environment;
+mod equal;
 mod limit;
 mod locals;
 mod name_type;
 mod tag;
 mod usable;
+mod usable_names;
 
 pub use callee::{Callee, find_callee, takes_tag};
 pub use environment::{Environment, Found};
@@ -16,3 +18,4 @@ pub use limit::TOTAL_SIZE_LIMIT;
 pub use locals::{Locals, locals_of};
 pub use name_type::{NameType, NameTypes};
 pub use tag::is_tag;
+pub use usable_names::UsableNames;

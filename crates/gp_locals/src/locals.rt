@@ -1,6 +1,7 @@
 //! The names of a function.
 
 ghost use Rattle.std.specs.Prelude.{◌≡◌, [], OnOk, IfOk, flat_map, map, string_bytes};
+ghost use Rattle.std.specs.Rc.{rc_slice_items};
 ghost use Rattle.gp_tree.specs.Statement.{statement, statements};
 ghost use Rattle.gp_types.specs.Signature.{parameter_names, parameter_view};
 ghost use Rattle.gp_locals.specs.Environment.{place_among};
@@ -12,6 +13,7 @@ use gp_types::SigParam;
 use indexmap::IndexSet;
 use std::alloc::{AllocError, Global};
 use std::marker::Model;
+use std::rc::RcSlice;
 
 /// The names of a function: its parameters and each name that it assigns, counts with or annotates, anywhere in it. A
 /// contract sees them as a list, in the order of their first appearance.
@@ -20,17 +22,18 @@ pub struct Locals {
     // Their places.
     places: NameSet,
     // The names, which all who list them share.
-    names: Vec<Name>,
+    names: RcSlice<Name>,
 }
 
 impl Model for Locals {
     ghost use Rattle.std.specs.Prelude.{◌≡◌, List, ℕ};
+    ghost use Rattle.std.specs.Rc.{rc_slice_items};
 
     ghost Value = { List (List ℕ) };
 
     ghost view = { λ l. l.places };
 
-    ghost invariant = { λ l. l.names.items ≡ l.places };
+    ghost invariant = { λ l. rc_slice_items l.names ≡ l.places };
 }
 
 impl Locals {
@@ -46,6 +49,13 @@ impl Locals {
         ensures { result.now ≡ self.now }
     {
         &self.names
+    }
+
+    /// The names in order, as a list that is shared. Takes no memory; it fails only past 2^64 - 1 copies.
+    pub(crate) fn shared(&self) -> Result<RcSlice<Name>, AllocError>
+        ensures { IfOk result (λ names. rc_slice_items names ≡ self.now) }
+    {
+        self.names.clone()
     }
 }
 
@@ -107,7 +117,7 @@ pub fn locals_of(alloc: Global, params: &[SigParam], body: &[Stmt]) -> Result<Lo
         places.add(alloc, param.name.as_str())?;
     }
     add_block(alloc, &mut places, body)?;
-    let names = names_in(alloc, places.as_slice())?;
+    let names = RcSlice::from_vec(names_in(alloc, places.as_slice())?)?;
     Ok(Locals { places, names })
 }
 

@@ -1,17 +1,20 @@
 //! The usable names of an environment, as a list by ascending positions.
 
-ghost use Rattle.std.specs.Prelude.{◌≡◌, ◌≤◌, [], ◌++◌, ◌^◌, ◌-◌, min, IfOk, OnErr, OnOk, filter, length, map, option_map, slice_get};
+ghost use Rattle.std.specs.Prelude.{◌≡◌, ◌≤◌, [], ◌++◌, ◌^◌, ◌-◌, min, IfOk, IfSome, IsTrue, OnErr, OnOk, Some, filter, length, map, option_map, slice_get};
+ghost use Rattle.std.specs.Rc.{rc_slice_items};
 ghost use Rattle.std.specs.Option.{option_copied};
 ghost use Rattle.std.specs.List.{list_all};
 ghost use Rattle.gp_types.specs.View.{ty_view};
 ghost use Rattle.gp_locals.specs.code.Usable as spec;
 ghost use Rattle.gp_locals.specs.View.{name_view};
-ghost use Rattle.gp_locals.specs.code.UsableView.{usable_view};
+ghost use Rattle.gp_locals.specs.code.UsableView.{usable_view, shared_view};
 
+use crate::equal::is_equal;
 use crate::name_type::{NameType, NameTypes};
 use gp_base::{Name, Sequence};
 use gp_types::{Ty, same_type, size};
 use std::alloc::{AllocError, Global};
+use std::rc::RcSlice;
 
 /// A usable name with its type, by its position among the names of the function, counted from 0.
 #[derive(Drop)]
@@ -73,6 +76,23 @@ pub(crate) fn put_among(
         usable.insert(at, UsableName { position, ty })?;
     }
     Ok(())
+}
+
+// Whether the name at a position stands in this place of the list with this type; where it says so, it does.
+fn has_at(usable: &[UsableName], at: usize, position: usize, ty: &Ty) -> bool
+    ensures { IsTrue result → slice_get (map usable_view usable.now) at ≡ Some (spec.at_position position (ty_view ty.now)) }
+{
+    match usable.get(at) {
+        Some(name) => name.position == position && is_equal(&name.ty, ty),
+        None => false,
+    }
+}
+
+/// Whether the name at a position has this type already; where it says so, it does. Takes no memory.
+pub(crate) fn is_given(usable: &[UsableName], position: usize, ty: &Ty) -> bool
+    ensures { IsTrue result → spec.put_among position (ty_view ty.now) (map usable_view usable.now) ≡ map usable_view usable.now }
+{
+    has_at(usable, count_below(usable, position), position, ty)
 }
 
 /// The same usable names once more.
@@ -170,7 +190,7 @@ fn list_name(listed: &mut NameTypes, name: Option<&Name>, ty: &Ty) -> Result<(),
 }
 
 /// The usable names by their names, in the same order.
-#[tactic(auto, using(crate::proofs::UsableNames::with_name_append))]
+#[tactic(auto, using(crate::proofs::UsableLists::with_name_append))]
 pub(crate) fn by_names(
     alloc: Global,
     names: &[Name],
@@ -183,4 +203,82 @@ pub(crate) fn by_names(
         list_name(&mut listed, name_at(names, name.position), &name.ty)?;
     }
     Ok(listed)
+}
+
+/// A list of usable names that the places of a text share.
+pub(crate) type SharedNames = RcSlice<UsableName>;
+
+/// The usable names as a list that is shared, which is made where there is none yet.
+pub(crate) fn share(
+    alloc: Global,
+    shared: &mut Option<SharedNames>,
+    usable: &[UsableName],
+) -> Result<SharedNames, AllocError>
+    requires { IfSome (shared_view shared.now) (λ listed. listed ≡ map usable_view usable.now) }
+    ensures made { IfOk result (λ made. map usable_view (rc_slice_items made) ≡ map usable_view usable.now) }
+    ensures kept { IfSome (shared_view shared.new) (λ listed. listed ≡ map usable_view usable.now) }
+{
+    if let Some(listed) = shared {
+        return listed.clone();
+    }
+    let made = RcSlice::from_vec(copy_usable(alloc, usable)?)?;
+    *shared = Some(made.clone()?);
+    Ok(made)
+}
+
+/// The shared list once more, where there is one. Takes no memory.
+pub(crate) fn copy_shared(shared: &Option<SharedNames>) -> Result<Option<SharedNames>, AllocError>
+    ensures { IfOk result (λ made. shared_view made ≡ shared_view shared.now) }
+{
+    match shared {
+        Some(listed) => Ok(Some(listed.clone()?)),
+        None => Ok(None),
+    }
+}
+
+/// Of two shared lists one that has these names, where one is known to. Takes no memory.
+pub(crate) fn one_with(
+    usable: &[UsableName],
+    first: &Option<SharedNames>,
+    second: &Option<SharedNames>,
+) -> Result<Option<SharedNames>, AllocError>
+    ensures { IfOk result (λ made. IfSome (shared_view made) (λ listed. listed ≡ map usable_view usable.now)) }
+{
+    if has_names(first, usable) {
+        return copy_shared(first);
+    }
+    if has_names(second, usable) {
+        return copy_shared(second);
+    }
+    Ok(None)
+}
+
+// Whether a shared list has these names; where it says so, it does.
+fn has_names(shared: &Option<SharedNames>, usable: &[UsableName]) -> bool
+    ensures { IsTrue result → shared_view shared.now ≡ Some (map usable_view usable.now) }
+{
+    match shared {
+        Some(listed) => are_equal(listed, usable),
+        None => false,
+    }
+}
+
+fn are_equal(usable: &[UsableName], others: &[UsableName]) -> bool
+    ensures { IsTrue result → map usable_view usable.now ≡ map usable_view others.now }
+{
+    if usable.len() != others.len() {
+        return false;
+    }
+    for i in 0..usable.len() {
+        if !is_equal_name(&usable[i], &others[i]) {
+            return false;
+        }
+    }
+    true
+}
+
+fn is_equal_name(name: &UsableName, other: &UsableName) -> bool
+    ensures { IsTrue result → usable_view name.now ≡ usable_view other.now }
+{
+    name.position == other.position && is_equal(&name.ty, &other.ty)
 }

@@ -13,7 +13,7 @@ ghost use Rattle.gp_meaning.specs.View.{value_view, field_view, variables_view, 
 
 use crate::built_ins::Called;
 use crate::halt::Halt;
-use crate::value::{FieldValue, FieldValues, Value, Values, copy};
+use crate::value::{FieldValue, FieldValues, Value, Values};
 use crate::variables::Variables;
 use gp_base::{Tag, TextBytes};
 use gp_locals::{Callee, Locals, is_tag, takes_tag};
@@ -123,7 +123,7 @@ fn field_values(
         if i < values.len() {
             made.push(FieldValue {
                 name: fields[i].name.copy()?,
-                value: copy(alloc, &values[i])?,
+                value: values[i].copy(alloc)?,
             })?;
         }
     }
@@ -161,7 +161,7 @@ fn put_back(
 {
     match argument {
         Expr::Place(place) => {
-            let value = copy(alloc, value)?;
+            let value = value.copy(alloc)?;
             variables.assign_place(alloc, names, place, value)
         }
         _ => Ok(()),

@@ -39,32 +39,37 @@ pub struct FieldValue {
 /// The fields of a struct.
 pub type FieldValues = Vec<FieldValue>;
 
-/// The same value once more.
-#[cycle(copy)]
-pub fn copy(alloc: Global, value: &Value) -> Result<Value, AllocError>
-    ensures { IfOk result (λ made. value_view made ≡ value_view value.now) }
-{
-    match value {
-        Value::Int(number) => Ok(Value::Int(*number)),
-        Value::Bool(truth) => Ok(Value::Bool(*truth)),
-        Value::Qubit(number) => Ok(Value::Qubit(*number)),
-        Value::Tuple(parts) => Ok(Value::Tuple(copy_values(alloc, parts)?)),
-        Value::Struct(fields) => Ok(Value::Struct(copy_fields(alloc, fields)?)),
+impl Value {
+    ghost use Rattle.std.specs.Prelude.{◌≡◌, IfOk};
+    ghost use Rattle.gp_meaning.specs.View.{value_view};
+
+    /// The same value once more.
+    #[cycle(copying)]
+    pub fn copy(&self, alloc: Global) -> Result<Value, AllocError>
+        ensures { IfOk result (λ made. value_view made ≡ value_view self.now) }
+    {
+        match self {
+            Value::Int(number) => Ok(Value::Int(*number)),
+            Value::Bool(truth) => Ok(Value::Bool(*truth)),
+            Value::Qubit(number) => Ok(Value::Qubit(*number)),
+            Value::Tuple(parts) => Ok(Value::Tuple(copy_values(alloc, parts)?)),
+            Value::Struct(fields) => Ok(Value::Struct(copy_fields(alloc, fields)?)),
+        }
     }
 }
 
-#[cycle(copy)]
+#[cycle(copying)]
 fn copy_values(alloc: Global, values: &[Value]) -> Result<Values, AllocError>
     ensures { IfOk result (λ made. map value_view made.items ≡ map value_view values.now) }
 {
     let mut made = Vec::new(alloc);
     for value in values {
-        made.push(copy(alloc, value)?)?;
+        made.push(value.copy(alloc)?)?;
     }
     Ok(made)
 }
 
-#[cycle(copy)]
+#[cycle(copying)]
 fn copy_fields(alloc: Global, fields: &[FieldValue]) -> Result<FieldValues, AllocError>
     ensures { IfOk result (λ made. map field_view made.items ≡ map field_view fields.now) }
 {
@@ -72,7 +77,7 @@ fn copy_fields(alloc: Global, fields: &[FieldValue]) -> Result<FieldValues, Allo
     for field in fields {
         made.push(FieldValue {
             name: field.name.copy()?,
-            value: copy(alloc, &field.value)?,
+            value: field.value.copy(alloc)?,
         })?;
     }
     Ok(made)

@@ -86,7 +86,8 @@ pub fn told_signature(
 // The usable names before a statement, with their types.
 fn told_names(alloc: Global, statement: &TypedStmt) -> Result<String, AllocError> {
     let mut told = String::new(alloc);
-    for usable in statement.before.as_slice() {
+    let before = statement.before.listed(alloc)?;
+    for usable in before.as_slice() {
         let ty = told_type(alloc, &usable.ty)?;
         told.push_str(format!(in alloc; " {}: {ty}", usable.name.as_str())?.as_str())?;
     }

@@ -16,7 +16,7 @@ pub mod stmt;
 pub mod struct_decl;
 pub mod type_expr;
 
-pub use copies::{copy_names, copy_text};
+pub use copies::copy_text;
 pub use expr::{BinOp, Expr, Exprs};
 pub use function::{Function, Param, Params};
 pub use line_form::LineForm;

@@ -1,6 +1,6 @@
 //! The types of statements and blocks.
 
-ghost use Rattle.std.specs.Prelude.{◌≡◌, IfOk, OnOk, Ok, Some, None, map, option_map};
+ghost use Rattle.std.specs.Prelude.{◌≡◌, IfOk, OnOk, Ok, Some, None, option_map};
 ghost use Rattle.gp_tree.specs.Expression.{expression, maybe_expression};
 ghost use Rattle.gp_tree.specs.Statement.{statement, statements};
 ghost use Rattle.gp_tree.specs.Statement as stmt;
@@ -16,7 +16,6 @@ ghost use Rattle.gp_locals.specs.Environment as env;
 ghost use Rattle.gp_typing.specs.code.Pieces.{tested, counted, named, written, put_written, ended_annotated, ended_if, ended_while, ended_for, ended_next, append_statements};
 ghost use Rattle.gp_typing.specs.Typed as typed;
 ghost use Rattle.gp_typing.specs.Typed.{behind, no_statements, with_statement};
-ghost use Rattle.gp_locals.specs.View.{name_view};
 ghost use Rattle.gp_typing.specs.View.{expression_view, statement_kind_view, statements_view};
 
 use crate::assignments::{assign_name, assign_targets};
@@ -30,7 +29,7 @@ use crate::operators::{is_bool_value, is_int_value};
 use crate::typed::{TypedExpr, TypedStmt, TypedStmtKind, TypedStmts};
 use crate::value::{Value, into_expr};
 use gp_base::{LineNo, Name};
-use gp_locals::{Environment, NameTypes};
+use gp_locals::{Environment, UsableNames};
 use gp_tree::{Expr, Stmt, Targets, TypeExpr};
 use gp_types::{Ty, same_type};
 use std::alloc::{AllocError, Global};
@@ -72,7 +71,7 @@ fn check_next(
         breaks,
         continues,
     } = ends;
-    let Some(environment) = next else {
+    let Some(mut environment) = next else {
         return Err(TypeFault::Unreachable(line));
     };
     let before = environment.usable(alloc, frame.names)?;
@@ -90,10 +89,10 @@ fn add_statement(
     alloc: Global,
     line: LineNo,
     block: BlockTyping,
-    before: NameTypes,
+    before: UsableNames,
     typed: StatementTyping,
 ) -> Result<BlockTyping, TypeFault>
-    ensures { Answers block_view result (ended_next line (block_view block) (map name_view before) (statement_view typed)) }
+    ensures { Answers block_view result (ended_next line (block_view block) before (statement_view typed)) }
 {
     let StatementTyping { kind, ends } = typed;
     let BlockTyping {
@@ -108,11 +107,11 @@ fn add_statement(
 #[tactic(auto, using(crate::proofs::BlockViews::statements_view_last))]
 fn append_statement(
     stmts: &mut TypedStmts,
-    before: NameTypes,
+    before: UsableNames,
     kind: TypedStmtKind,
 ) -> Result<(), AllocError>
     ensures { OnOk result (statements_view stmts.new.items
-        ≡ append_statements (statements_view stmts.old.items) (with_statement (behind (map name_view before) (statement_kind_view kind)) no_statements)) }
+        ≡ append_statements (statements_view stmts.old.items) (with_statement (behind before (statement_kind_view kind)) no_statements)) }
 {
     stmts.push(TypedStmt { before, kind })?;
     Ok(())

@@ -2,7 +2,7 @@
 //! before it.
 
 use gp_base::{LineNo, Name, TextBytes};
-use gp_locals::NameTypes;
+use gp_locals::UsableNames;
 use gp_tree::{BinOp, Place, Targets, TypeExpr};
 use gp_types::{Signature, Ty};
 
@@ -54,7 +54,8 @@ pub type TypedExprs = Vec<TypedExpr>;
 #[cycle(typed_statement)]
 pub struct TypedStmt {
     /// The usable names before the statement with their types, in the order of their first appearance in the function.
-    pub before: NameTypes,
+    /// Statements between which nothing changes share them.
+    pub before: UsableNames,
     /// The statement itself.
     pub kind: TypedStmtKind,
 }

@@ -13,9 +13,9 @@ use Rattle.hg_graph.specs.Valid.{IsValid}
 use Rattle.hg_graph.specs.Value.{Value}
 use Rattle.hg_json.specs.GraphText.{json}
 use Rattle.hg_laws.proofs.Main.{picks_change_nothing_lem}
-use Rattle.hg_runner.proofs.Found.{found}
-use Rattle.hg_runner.specs.Entries.{Entry, entry_of, Missing, NotClosed, Closed}
-use Rattle.hg_runner.specs.Told.{trace_of, EndsAs}
+use Rattle.hg_run.proofs.Found.{found}
+use Rattle.hg_run.specs.Entries.{Entry, entry_of, Missing, NotClosed, Closed}
+use Rattle.hg_run.specs.Told.{trace_of, EndsAs}
 use Rattle.guppy_call.specs.declared.mode_error.ModeError.{ModeError}
 use Rattle.guppy_call.specs.declared.mode_error.ModeError.TheVariants as error
 use Rattle.guppy_call.specs.declared.refusal.Refusal.{Refusal}

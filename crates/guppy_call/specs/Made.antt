@@ -3,9 +3,9 @@ use Rattle.std.specs.Prelude.{◌≡◌, ℕ, List, [], Option, Result, Ok, Err,
 use Rattle.std.specs.declared.alloc.Global.{Global}
 use Rattle.gp_base.specs.Outside.{Wrote}
 use Rattle.hg_graph.specs.Graph.{Graph}
-use Rattle.hg_runner.specs.Entries.{Entry, entry_of, Missing, NotClosed, Closed}
-use Rattle.hg_runner.specs.declared.fault.RunFault.{RunFault}
-use Rattle.hg_runner.specs.declared.fault.RunFault.TheVariants as fault
+use Rattle.hg_run.specs.Entries.{Entry, entry_of, Missing, NotClosed, Closed}
+use Rattle.hg_run.specs.declared.fault.RunFault.{RunFault}
+use Rattle.hg_run.specs.declared.fault.RunFault.TheVariants as fault
 use Rattle.guppy_words.specs.Meaning.{Running}
 use Rattle.guppy_call.specs.declared.mode_error.ModeError.{ModeError}
 use Rattle.guppy_call.specs.declared.mode_error.ModeError.TheVariants.{Refused, Memory}

@@ -6,8 +6,8 @@ use Rattle.guppy_words.specs.Meaning.{Running}
 use Rattle.hg_graph.specs.Graph.{Graph}
 use Rattle.hg_graph.specs.Run.{graph_run}
 use Rattle.hg_graph.specs.Value.{Value}
-use Rattle.hg_runner.specs.Entries.{entry_of, Missing, NotClosed, Closed}
-use Rattle.hg_runner.specs.Told.{trace_of}
+use Rattle.hg_run.specs.Entries.{entry_of, Missing, NotClosed, Closed}
+use Rattle.hg_run.specs.Told.{trace_of}
 use Rattle.guppy_call.specs.declared.refusal.Refusal.{Refusal}
 use Rattle.guppy_call.specs.declared.refusal.Refusal.TheVariants as refusal
 use Rattle.guppy_call.specs.declared.status.Status.{Status}

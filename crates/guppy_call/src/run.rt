@@ -15,7 +15,7 @@ use crate::status::Status;
 use crate::validity::valid_graph;
 use gp_base::{End, Sink};
 use guppy_words::RunOptions;
-use hg_runner::{RunFault, run};
+use hg_run::{RunFault, run};
 use hg_valid::Valid;
 use std::alloc::Global;
 

@@ -1,5 +1,8 @@
 //! The types of values at ports.
 
+ghost use Rattle.std.specs.Prelude.{Decides, ◌≡◌, map};
+ghost use Rattle.hg_ops.specs.TypeView.{type_view};
+
 use std::alloc::{AllocError, Global};
 use std::marker::Model;
 
@@ -146,15 +149,7 @@ impl Row {
     pub fn is_same(&self, other: &Row) -> bool
         ensures { Decides result (self.now ≡ other.now) }
     {
-        if self.types.len() != other.types.len() {
-            return false;
-        }
-        for k in 0..self.types.len() {
-            if !self.types[k].is_same(&other.types[k]) {
-                return false;
-            }
-        }
-        true
+        same_types(self.types.as_slice(), other.types.as_slice())
     }
 
     // Whether one of the types is linear.
@@ -169,6 +164,22 @@ impl Row {
         }
         false
     }
+}
+
+/// Whether two lists have the same types, place by place. Takes no memory.
+#[cycle(same)]
+pub fn same_types(ones: &[GraphType], others: &[GraphType]) -> bool
+    ensures { Decides result (map type_view ones.now ≡ map type_view others.now) }
+{
+    if ones.len() != others.len() {
+        return false;
+    }
+    for k in 0..ones.len() {
+        if !ones[k].is_same(&others[k]) {
+            return false;
+        }
+    }
+    true
 }
 
 impl Rows {

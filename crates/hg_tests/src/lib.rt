@@ -1,4 +1,4 @@
-//! Tests of the calls and laws of ops, graphs, their texts and their runs, in a crate of their own: the proof of a crate's tests
+//! Tests of the calls and laws of ops, graphs and their texts, in a crate of their own: the proof of a crate's tests
 //! goes over the whole crate once more. Small graphs and what the validator says of them are in `hg_rows`.
 #![tactic(auto)]
 
@@ -10,7 +10,5 @@ mod json_tests;
 mod lower_tests;
 #[cfg(test)]
 mod op_tests;
-#[cfg(test)]
-mod run_tests;
 #[cfg(test)]
 mod thin_text_tests;

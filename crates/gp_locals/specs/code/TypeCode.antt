@@ -3,6 +3,7 @@ use Rattle.std.specs.Prelude.{◌≡◌, ℕ, List, [], ◌∷◌, Option}
 use Rattle.std.specs.Coded.{Coded, coded_list, coded_option}
 use base.Stored.{Gv, gnil, gnum, gcons}
 use Rattle.std.proofs.Common.{refl, ap}
+use Rattle.gp_locals.specs.Environment.{NameType}
 use Rattle.gp_types.specs.Types.{Ty, Int, Bool, Qubit, Tuple, Struct, Tys, none, more, Fields, end, field}
 
 abbrev pub text_code : List ℕ → Gv
@@ -91,3 +92,13 @@ coded_type = record { code = type_code; inj = type_code-inj }
 -- the types of the names of a function, where they are usable
 abbrev pub coded_types : Coded (List (Option Ty))
 coded_types = coded_list (coded_option coded_type)
+
+abbrev pub name_code : NameType → Gv
+name_code n = gcons (text_code n.name) (type_code n.ty)
+
+pub name_code-inj : (a b : NameType) → name_code a ≡ name_code b → a ≡ b
+name_code-inj a b e = λ i. record { name = text_code-inj a.name b.name (ap head e) i; ty = type_code-inj a.ty b.ty (ap tail e) i }
+
+-- usable names with their types
+abbrev pub coded_name_types : Coded (List NameType)
+coded_name_types = coded_list (record { code = name_code; inj = name_code-inj })

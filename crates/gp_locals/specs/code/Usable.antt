@@ -9,6 +9,9 @@ pub record UsableName : Type 0 where
   pub position : ℕ
   pub ty : Ty
 
+abbrev pub at_position : ℕ → Ty → UsableName
+at_position p ty = record { position = p; ty = ty }
+
 -- the usable names of an environment whose first name has this position
 abbrev pub usable_from : ℕ → Environment → List UsableName
 usable_from k [] = []

@@ -4,7 +4,7 @@ use Rattle.std.specs.List.{insert}
 use Rattle.gp_types.specs.View.{ty_view}
 use Rattle.gp_locals.specs.code.Usable.{count_below, stands_at}
 use Rattle.gp_locals.specs.code.UsableView.{usable_view}
-use Rattle.gp_locals.proofs.UsableNames.{put_there, put_new, set_view, insert_view}
+use Rattle.gp_locals.proofs.UsableLists.{put_there, put_new, set_view, insert_view}
 use Rattle.gp_locals.proofs.usable.put_among.Goals as goal
 
 pub returns-then-stands_at-clause-put : goal.returns-then-stands_at-clause-put

@@ -1,4 +1,4 @@
-use Rattle.std.proofs.Common.{rules, ◌≡◌, ◌<◌, ◌+◌, ◌∙◌, ap, arith, sym, map, Err, Some, None}
+use Rattle.std.proofs.Common.{rules, ◌≡◌, ◌<◌, ◌+◌, ◌∙◌, ap, arith, sym, Err, Some, None}
 use Rattle.gp_tree.specs.Expression.{expression}
 use Rattle.gp_tree.specs.Statement.{statement, statements}
 use Rattle.gp_tree.specs.Statement as stmt
@@ -9,7 +9,6 @@ use Rattle.gp_typing.specs.Checks.{◌>>=◌}
 use Rattle.gp_typing.specs.code.Compound.{if_in, while_in, for_in, next_in}
 use Rattle.gp_typing.specs.code.Pieces.{tested, counted, named, ended_annotated, ended_if, ended_while, ended_for, ended_next}
 use Rattle.gp_typing.specs.code.StatementView.{block_view, statement_view, frame_view, known_for, value_in, statement_in, block_in}
-use Rattle.gp_locals.specs.View.{name_view}
 use Rattle.gp_typing.specs.View.{expression_view}
 use Rattle.gp_typing.proofs.StatementSizes.{block_steps, statement_steps, item-smaller, if-smaller, while-smaller, for-smaller}
 use Rattle.gp_typing.proofs.StatementSteps.{error_exit, memory_exit, last_call, at_err, as_assign, as_annotated, as_evaluate, as_if, as_while, as_for, if_err_body, if_err_other, if_ok, while_err_body, while_ok, for_err_name, for_err_body, for_ok, next_none, next_err, next_last, block_ends, block_err, block_more}
@@ -156,14 +155,16 @@ check_next-returns-in_err-before t c =
 pub check_next-returns-in_err-statement : goal.check_next-returns-in_err-statement
 check_next-returns-in_err-statement t c =
     error_exit block_view c.from_residual-in_err-statement.result (next_in c.args.frame.now (block_view c.args.block) (statement c.args.stmt.now)) c.in_err-statement.field-0.0 c.from_residual-in_err-statement.ensures.1
-    (λ n. next_err c.args.frame.now (block_view c.args.block) (statement c.args.stmt.now) c.in-Some.environment c.in-Some.is c.in_err-statement.field-0.0 (c.in_err-statement.ensures n))
+    (λ n. next_err c.args.frame.now (block_view c.args.block) (statement c.args.stmt.now) c.in-Some.environment c.in-Some.is c.in_err-statement.field-0.0
+    (ap (λ e. statement_in c.args.frame.now e (statement c.args.stmt.now)) (sym c.in_ok-before.ensures.unchanged) ∙ c.in_err-statement.ensures n))
 
 pub check_next-returns : goal.check_next-returns
 check_next-returns t c =
     last_call block_view c.add_statement.result (next_in c.args.frame.now (block_view c.args.block) (statement c.args.stmt.now))
-    (ended_next c.line_of-line.result (block_view c.args.block) (map name_view c.in_ok-before.before) (statement_view c.in_ok-statement.statement))
-    (next_last c.args.frame.now (block_view c.args.block) (statement c.args.stmt.now) c.in-Some.environment c.in-Some.is (statement_view c.in_ok-statement.statement) c.in_ok-statement.ensures
-    c.line_of-line.result c.line_of-line.ensures (map name_view c.in_ok-before.before) c.in_ok-before.ensures)
+    (ended_next c.line_of-line.result (block_view c.args.block) c.in_ok-before.before (statement_view c.in_ok-statement.statement))
+    (next_last c.args.frame.now (block_view c.args.block) (statement c.args.stmt.now) c.in-Some.environment c.in-Some.is (statement_view c.in_ok-statement.statement)
+    (ap (λ e. statement_in c.args.frame.now e (statement c.args.stmt.now)) (sym c.in_ok-before.ensures.unchanged) ∙ c.in_ok-statement.ensures)
+    c.line_of-line.result c.line_of-line.ensures c.in_ok-before.before c.in_ok-before.ensures.listed)
     c.add_statement.ensures
 
 -- ---- the loop over a block

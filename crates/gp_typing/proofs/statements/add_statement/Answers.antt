@@ -1,5 +1,3 @@
-use Rattle.std.proofs.Common.{map}
-use Rattle.gp_locals.specs.View.{name_view}
 use Rattle.gp_typing.specs.code.Pieces.{ended_next}
 use Rattle.gp_typing.specs.code.StatementView.{block_view, ends_view, statement_view}
 use Rattle.gp_typing.specs.View.{statements_view}
@@ -9,10 +7,10 @@ use Rattle.gp_typing.proofs.statements.add_statement.Goals as goal
 
 pub returns-in_err-ends : goal.returns-in_err-ends
 returns-in_err-ends c =
-    exits block_view c.from_residual-in_err-ends.result (ended_next c.args.line (block_view c.args.block) (map name_view c.args.before) (statement_view c.args.typed)) c.in_err-ends.field-0.0 c.from_residual-in_err-ends.ensures.1
-    (λ n. ended_next-err c.args.line (block_view c.args.block) (map name_view c.args.before) (statement_view c.args.typed) c.in_err-ends.field-0.0 (c.in_err-ends.ensures n))
+    exits block_view c.from_residual-in_err-ends.result (ended_next c.args.line (block_view c.args.block) c.args.before (statement_view c.args.typed)) c.in_err-ends.field-0.0 c.from_residual-in_err-ends.ensures.1
+    (λ n. ended_next-err c.args.line (block_view c.args.block) c.args.before (statement_view c.args.typed) c.in_err-ends.field-0.0 (c.in_err-ends.ensures n))
 
 pub returns : goal.returns
 returns c =
-    ended_next-ok c.args.line (block_view c.args.block) (map name_view c.args.before) (statement_view c.args.typed) (ends_view c.in_ok-ends.ends) c.in_ok-ends.ensures
+    ended_next-ok c.args.line (block_view c.args.block) c.args.before (statement_view c.args.typed) (ends_view c.in_ok-ends.ends) c.in_ok-ends.ensures
     (statements_view c.append_statement.new.stmts.items) c.in_ok-append_statement.ensures

@@ -7,9 +7,9 @@ pub GraphType::is_same-returns-in-Sum-Sum : goal.GraphType::is_same-returns-in-S
 GraphType::is_same-returns-in-Sum-Sum t c =
     search (rules, sum_decides c.is_same.result c.in-Sum-Sum.rows c.in-Sum-Sum.others c.is_same.ensures)
 
-pub Row::is_same-returns-then-not-is_same : goal.Row::is_same-returns-then-not-is_same
-Row::is_same-returns-then-not-is_same t c =
-    search (rules, items_alike type_view c.self.inside.types.items c.other.inside.types.items c.loop-k.k c.index.result.now c.index-in-loop-k.result.now)
+pub same_types-returns-then-not-is_same : goal.same_types-returns-then-not-is_same
+same_types-returns-then-not-is_same t c =
+    search (rules, items_alike type_view c.args.ones.now c.args.others.now c.loop-k.k c.index-ones-k.result c.index-others-k.result)
 
 pub GraphType::is_same-returns-then-is_same : goal.GraphType::is_same-returns-then-is_same
 GraphType::is_same-returns-then-is_same t c =

@@ -1,0 +1,171 @@
+//! Which children of a region are ready to fire: a set of their places that is kept as they fire.
+
+ghost use Rattle.std.specs.Prelude.{◌≡◌, [], ℕ, IfOk, OnOk, IfSome, MatchOption, length, drop};
+ghost use Rattle.std.specs.Option.{IfNone};
+ghost use Rattle.gp_base.specs.Run.{Returned, Stopped, Stuck};
+ghost use Rattle.hg_graph.specs.Graph.{children};
+ghost use Rattle.hg_graph.specs.Run.{outs_at, choose};
+ghost use Rattle.hg_graph.specs.Run as spec;
+ghost use Rattle.hg_steps.specs.Machine.{Plain};
+ghost use Rattle.hg_run.specs.code.CountedSetView.{ones};
+ghost use Rattle.hg_run.specs.code.Due.{is_due, HasDues, HasOtherDues, HasDuesBeside, IsPlace, Refreshes, Takes};
+ghost use Rattle.hg_run.specs.code.StateView.{ready_view};
+
+use crate::counted_set::CountedSet;
+use crate::firings::Firings;
+use crate::picking::{candidate_of, inputs_of, next_place};
+use crate::reads::{child_fires, child_of, children_of};
+use crate::state::Ready;
+use hg_graph::{Graph, NodeId};
+use std::alloc::{AllocError, Global};
+use std::collections::VecDeque;
+
+// The place of a node among the children of a container, where it is one.
+fn place_among(graph: &Graph, container: NodeId, node: NodeId) -> Option<usize>
+    ensures { IsPlace graph.now container.0 node.0 result }
+{
+    let nodes = children_of(graph, container);
+    let mut low = 0;
+    let mut high = nodes.len();
+    while low < high {
+        let middle = low + (high - low) / 2;
+        if nodes[middle].0 < node.0 {
+            low = middle + 1;
+        } else {
+            high = middle;
+        }
+    }
+    if low < nodes.len() && nodes[low].0 == node.0 {
+        Some(low)
+    } else {
+        None
+    }
+}
+
+// Whether a child fires and is ready.
+fn is_due(alloc: Global, graph: &Graph, fired: &Firings, node: NodeId) -> Result<bool, AllocError>
+    ensures { IfOk result (λ due. due ≡ is_due graph.now (outs_at fired.now) node.0) }
+{
+    if child_fires(graph, node) {
+        Ok(candidate_of(alloc, graph, fired, node)?.is_some())
+    } else {
+        Ok(false)
+    }
+}
+
+// Brings the set up to date at one node.
+fn refresh(
+    alloc: Global,
+    graph: &Graph,
+    container: NodeId,
+    fired: &Firings,
+    node: NodeId,
+    ready: &mut CountedSet,
+) -> Result<(), AllocError>
+    requires { length ready.old ≡ length (children graph.now container.0) }
+    ensures { OnOk result (Refreshes graph.now container.0 (outs_at fired.now) node.0 ready.old ready.new) }
+{
+    match place_among(graph, container, node) {
+        None => Ok(()),
+        Some(place) => {
+            let due = is_due(alloc, graph, fired, node)?;
+            ready.put(place, due);
+            Ok(())
+        }
+    }
+}
+
+/// Brings the set up to date at some nodes, where it is so at the others.
+pub fn refresh_all(
+    alloc: Global,
+    graph: &Graph,
+    container: NodeId,
+    fired: &Firings,
+    nodes: &[NodeId],
+    ready: &mut CountedSet,
+) -> Result<(), AllocError>
+    requires { HasDuesBeside graph.now container.0 (outs_at fired.now) nodes.now ready.old }
+    ensures { OnOk result (HasDues graph.now container.0 (outs_at fired.now) ready.new) }
+{
+    for k in 0..nodes.len() {
+        refresh(alloc, graph, container, fired, nodes[k], ready)?;
+    }
+    Ok(())
+}
+
+// Takes the child that runs out of the set.
+fn leave_out(
+    graph: &Graph,
+    container: NodeId,
+    running: NodeId,
+    fired: &Firings,
+    ready: &mut CountedSet,
+)
+    requires { HasDues graph.now container.0 (outs_at fired.now) ready.old }
+    ensures { HasOtherDues graph.now container.0 (outs_at fired.now) running.0 ready.new }
+{
+    let _fired = fired;
+    if let Some(place) = place_among(graph, container, running) {
+        ready.put(place, false);
+    }
+}
+
+/// The children that are ready as a region opens, but for the one that runs.
+pub fn first_due(
+    alloc: Global,
+    graph: &Graph,
+    container: NodeId,
+    running: NodeId,
+) -> Result<CountedSet, AllocError>
+    ensures { IfOk result (λ ready. HasOtherDues graph.now container.0 (outs_at []) running.0 ready) }
+{
+    let nodes = children_of(graph, container);
+    let fired = Firings::new(alloc);
+    let mut ready = CountedSet::new(alloc, nodes.len())?;
+    refresh_all(alloc, graph, container, &fired, nodes, &mut ready)?;
+    leave_out(graph, container, running, &fired, &mut ready);
+    Ok(ready)
+}
+
+// Takes the next pick, and the place that it names among those in the set, which is taken out; none where the set is
+// empty.
+fn take_place(ready: &mut CountedSet, picks: &mut VecDeque<u32>) -> Option<usize>
+    ensures none { IfNone result ((ones ready.old ≡ 0) × (picks.new.items ≡ picks.old.items)) }
+    ensures place { IfSome result (λ place. Takes picks.old.items ready.old place ready.new) }
+    ensures picks { IfSome result (λ place. picks.new.items ≡ drop 1 picks.old.items) }
+{
+    let count = ready.len();
+    if count == 0 {
+        return None;
+    }
+    let place = ready.nth(next_place(picks, count));
+    ready.put(place, false);
+    Some(place)
+}
+
+/// Takes the next pick, and the node at its place among those that are ready; none where none is.
+pub fn take_due(
+    alloc: Global,
+    graph: &Graph,
+    container: NodeId,
+    fired: &Firings,
+    ready: &mut CountedSet,
+    picks: &mut VecDeque<u32>,
+) -> Result<Option<Ready>, AllocError>
+    requires { HasDues graph.now container.0 (outs_at fired.now) ready.old }
+    ensures choice { IfOk result (λ found. (s : Plain) → s.picks ≡ picks.old.items
+        → MatchOption found (choose (spec.ready graph.now container.0 (outs_at fired.now)) s ≡ Stopped Stuck (record s { picks = picks.new.items }))
+        (λ r. choose (spec.ready graph.now container.0 (outs_at fired.now)) s ≡ Returned (ready_view r) (record s { picks = picks.new.items }))) }
+    ensures rest { IfOk result (λ found. IfSome found (λ r. HasOtherDues graph.now container.0 (outs_at fired.now) r.node.0 ready.new)) }
+{
+    match take_place(ready, picks) {
+        None => Ok(None),
+        Some(place) => match child_of(graph, container, place as u64) {
+            None => Ok(None),
+            Some(node) => match inputs_of(alloc, graph, fired, node)? {
+                None => Ok(None),
+                Some(ins) => Ok(Some(Ready { node, ins })),
+            },
+        },
+    }
+}

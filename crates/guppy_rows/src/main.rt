@@ -2,10 +2,17 @@
 //! prints what each row's calls came to, under the name of the row's file. The file `stdout` has what is wanted: it is written
 //! by hand, from the rules of the language and of graph texts.
 //!
-//! The lines of a table are those of `row_table`. A row's text is what the file `f.py` holds, which is the one file that there
-//! is. Behind `tell` stand the words of a call without the program's name, with one blank between two words, and `""` for a word
-//! of no characters; `; ` parts two calls, of which the second finds in `f.py` what the first wrote to its output. In front of
-//! the words may stand `read fault N: ` or `write fault N: `: the call N on files or on standard output fails, counted from 0.
+//! The lines of a table are those of `row_table`. A row's text is what the file `f.py` holds, which is the one file that
+//! there is. Behind `tell` stand the words of a call without the program's name, with one blank between two words. A word
+//! `FRONT*COUNT:TEXT` is FRONT and TEXT COUNT times behind it, and `""` a word of no characters; `(name)` stands for no
+//! further word, and `(nothing)` for no word at all. `; ` parts two calls, of which the second finds in the file what the
+//! first wrote to its output. In front of the words may stand, in this order:
+//!
+//! - `each prefix: `: the calls are made with each shorter text from the front of the row's text in place of it, and what they
+//!   come to is told where it isn't what those with the text before came to;
+//! - `read fault N: `, `write fault N: ` or `err fault N: `: the call N on files, on standard output or on standard error fails,
+//!   counted from 0;
+//! - `input: `: the one file that there is has the name `-`, which is that of standard input.
 //!
 //! For each call a line has the name of its status. What it wrote comes behind it: `out |TEXT` is a line of standard output with
 //! its line feed, `out +TEXT` the rest behind the last line feed, and `err` says the same of standard error.
@@ -13,6 +20,7 @@
 
 mod calls;
 mod outcome;
+mod words;
 
 use crate::calls::plan_of;
 use crate::outcome::told_calls;

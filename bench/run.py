@@ -6,6 +6,7 @@ loop in Python: it prints the lines that the run of the loop's graph writes.
 import filecmp
 import json
 import os
+import subprocess
 import sys
 import tempfile
 
@@ -143,13 +144,18 @@ def beside(shape, size, path, trace, work):
     return took
 
 
+def write_text(shape, size, path):
+    """Makes the text in a process of its own: the peak of a process counts from that of the one that starts it."""
+    with open(path, "w") as file:
+        subprocess.run([sys.executable, os.path.abspath(__file__), "text", shape, str(size)], stdout=file, check=True)
+
+
 def measure(program, work, shape):
-    make, largest, words = SHAPES[shape]
+    _, largest, words = SHAPES[shape]
     before = None
     for size in (largest // 2, largest):
         path, trace = os.path.join(work, "graph.json"), os.path.join(work, "trace")
-        with open(path, "w") as file:
-            file.write(make(size))
+        write_text(shape, size, path)
         took, peak = timed([program, "run", path, *words(size)], stdout=trace)
         python = beside(shape, size, path, trace, work)
         length = os.path.getsize(path)

@@ -1,18 +1,18 @@
 -- Which children of a region are ready to fire: as a list in rising number.
-use Rattle.std.proofs.Common.{◌≡◌, ◌≢◌, inl, inr, ℕ, zero, suc, ◌+◌, ◌<◌, ◌≤◌, take, drop, get_or, Bool, true, false, cond, List, [], ◌∷◌, length, Option, Some, None, is_some, refl, sym, ap, ap₂, ◌∙◌, subst, arith}
+use Rattle.std.proofs.Common.{◌≡◌, ℕ, zero, suc, ◌+◌, ◌<◌, ◌≤◌, take, drop, get_or, Bool, true, false, cond, List, [], ◌∷◌, length, Option, Some, None, is_some, refl, sym, ap, ◌∙◌, arith}
 use Rattle.std.specs.Prelude.{slice_get, filter, filter_map, not, ◌&&◌, ◌==◌}
 use Rattle.std.specs.List.{cons_option}
 use Rattle.std.proofs.lemmas.Option.{get_or_from_slice_get, slice_get_within}
-use Rattle.gp_base.specs.Membership.{In}
 use Rattle.gp_base.specs.Run.{Returned, Stopped, Stuck}
 use Rattle.hg_ops.specs.Op.{fires}
 use Rattle.hg_graph.specs.Graph.{Graph, op_at, parent_at, children, firing_children, numbers}
 use Rattle.hg_graph.specs.Run.{Look, Ready, candidate, ready, inputs, with_inputs, has_fired, orders_kept, choose}
 use Rattle.hg_graph.specs.Value.{Value}
-use Rattle.hg_laws.proofs.Children.{get_in, both_true}
+use Rattle.hg_laws.proofs.Children.{both_true}
 use Rattle.hg_steps.specs.Machine.{Plain}
 use Rattle.hg_run.specs.code.CountedSetView.{one_if, ones}
-use Rattle.hg_run.specs.code.Due.{is_due, HasDues}
+use Rattle.hg_run.specs.code.Due.{HasDues}
+use Rattle.hg_run.specs.code.Waits.{is_due}
 use Rattle.hg_run.specs.code.StateView.{place_of}
 use Rattle.hg_run.proofs.Scans.{choose_is}
 
@@ -154,6 +154,14 @@ module _ (g : Graph) (c : ℕ) (look : Look) (flags : List Bool) (has : HasDues 
         let l : 0 < length (ready g c look) = omega (arith, slice_get_within (ready g c look) place (record { node = n; ins = ins }) there) in
         choose_is (ready g c look) s picks (record { node = n; ins = ins }) same l
         (λ d. sym (get_or_from_slice_get (ready g c look) place (record { node = n; ins = ins }) d there) ∙ ap (λ k. get_or (ready g c look) k d) (rank ∙ ap (place_of picks) (sym count_same)))
+
+    pub unfired : look n ≡ None
+    unfolding candidate
+    unfired = go (look n) (is_ready p n e m)
+      where
+        go : (o : Option (List Value)) → is_some (cond (is_some o) None (cond (orders_kept g.links look n) (with_inputs n (inputs g look n)) None)) ≡ true → o ≡ None
+        go None h = refl
+        go (Some vs) h = absurd cc
 
     pub never_none : None ≡ inputs g look n → ⊥
     never_none i = no (with_inputs n (inputs g look n)) (ap (with_inputs n) (sym i)) (ap is_some (sym as_inputs) ∙ is_ready p n e m)

@@ -15,7 +15,10 @@ use Rattle.hg_graph.specs.View.{number_of}
 use Rattle.std.proofs.lemmas.List.{drop_more, drop_all, length-map, length-set, get_or-set_same, get_or-set_other}
 use Rattle.hg_run.proofs.DueLists.{rises_children, rises_order}
 use Rattle.hg_steps.specs.Counters.{source_of}
-use Rattle.hg_run.specs.code.Due.{is_due, HasDues, HasOtherDues, HasDuesBeside, IsPlace, Refreshes, is_among, target_of, followers_at, HasFollowers}
+use Rattle.hg_run.specs.declared.state.Dues.{Dues}
+use Rattle.hg_run.specs.code.Waits.{is_due, value_came, order_came}
+use Rattle.hg_run.proofs.Arrivals.{value_stays, order_stays, seen_stays}
+use Rattle.hg_run.specs.code.Due.{KnowsOtherDues, KnowsDuesBeside, HasDues, HasOtherDues, HasDuesBeside, IsPlace, Refreshes, is_among, target_of, followers_at, HasFollowers}
 
 module _ (look more : Look) (r n : ℕ) (same : (m : ℕ) → m ≢ r → more m ≡ look m) where
   -- no link leads from r to n
@@ -87,6 +90,16 @@ beside g c fired r outs lists flags follow has = record { all = has.all; at = λ
     go : (n : ℕ) → is_among n (followers_at lists r) ≡ false → (t : Bool) → (r == n) ≡ t → (not t && is_due g look n) ≡ is_due g more n
     go n away true e = sym (due_none g more n (fired_no g more n outs (ap (λ t. cond t (Some outs) (look n)) e)))
     go n away false e = ap (λ o. fires (op_at g n) && is_some o) (sym (candidate_same look more r n other g (λ q. both (r == n) (eq-eqb r n (sym q)) e) (no_link n away)))
+
+pub known_beside : (g : Graph) (c : ℕ) (fired : List Fired) (r : ℕ) (outs : List Value) (lists : List (List NodeId)) (dues : Dues) → HasFollowers g lists → KnowsOtherDues g c (outs_at fired) r dues
+    → KnowsDuesBeside g c (outs_at (record { node = r; outs = outs } ∷ fired)) (followers_at lists r) dues
+known_beside g c fired r outs lists dues follow known = record {
+  ready = beside g c fired r outs lists dues.ready follow known.ready;
+  seen = record {
+    values = seen_stays g c (value_came g (outs_at fired)) (value_came g (outs_at (record { node = r; outs = outs } ∷ fired))) dues.values.items (value_stays g fired r outs known.first) known.seen.values;
+    orders = seen_stays g c (order_came g (outs_at fired)) (order_came g (outs_at (record { node = r; outs = outs } ∷ fired))) dues.orders.items (order_stays g fired r outs known.first) known.seen.orders;
+  };
+}
 
 -- as a region opens
 among_of : (n : ℕ) (nodes : List NodeId) → In n (map number_of nodes) → is_among n nodes ≡ true

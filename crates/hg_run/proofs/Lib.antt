@@ -17,3 +17,4 @@ pub mod Elsewhere
 pub mod Following
 pub mod Framed
 pub mod Takers
+pub mod Arrivals

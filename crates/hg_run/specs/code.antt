@@ -19,3 +19,4 @@ pub mod ValueCode
 pub mod ValueFalls
 pub mod ValueSize
 pub mod ValueView
+pub mod Waits

@@ -8,14 +8,15 @@ ghost use Rattle.hg_graph.specs.Run.{outs_at, choose};
 ghost use Rattle.hg_graph.specs.Run as spec;
 ghost use Rattle.hg_steps.specs.Machine.{Plain};
 ghost use Rattle.hg_run.specs.code.CountedSetView.{ones};
-ghost use Rattle.hg_run.specs.code.Due.{is_due, HasDues, HasOtherDues, HasDuesBeside, IsPlace, Refreshes, Takes};
+ghost use Rattle.hg_run.specs.code.Due.{AreNone, HasDues, HasOtherDues, IsPlace, IsSeen, KnowsDues, KnowsDuesBeside, KnowsOtherDues, Refreshes, Takes};
 ghost use Rattle.hg_run.specs.code.StateView.{ready_view};
 
 use crate::counted_set::CountedSet;
 use crate::firings::Firings;
-use crate::picking::{candidate_of, inputs_of, next_place};
-use crate::reads::{child_fires, child_of, children_of};
-use crate::state::Ready;
+use crate::picking::{inputs_of, next_place};
+use crate::reads::{child_of, children_of};
+use crate::state::{Dues, Ready};
+use crate::waiting::{first_missing_order, first_missing_value, is_due};
 use hg_graph::{Graph, NodeId};
 use std::alloc::{AllocError, Global};
 use std::collections::VecDeque;
@@ -42,55 +43,40 @@ fn place_among(graph: &Graph, container: NodeId, node: NodeId) -> Option<usize>
     }
 }
 
-// Whether a child fires and is ready.
-fn is_due(alloc: Global, graph: &Graph, fired: &Firings, node: NodeId) -> Result<bool, AllocError>
-    ensures { IfOk result (λ due. due ≡ is_due graph.now (outs_at fired.now) node.0) }
-{
-    if child_fires(graph, node) {
-        Ok(candidate_of(alloc, graph, fired, node)?.is_some())
-    } else {
-        Ok(false)
-    }
-}
-
-// Brings the set up to date at one node.
-fn refresh(
-    alloc: Global,
-    graph: &Graph,
-    container: NodeId,
-    fired: &Firings,
-    node: NodeId,
-    ready: &mut CountedSet,
-) -> Result<(), AllocError>
-    requires { length ready.old ≡ length (children graph.now container.0) }
-    ensures { OnOk result (Refreshes graph.now container.0 (outs_at fired.now) node.0 ready.old ready.new) }
+// Looks at one node again, from where the last look ended, and brings what is known up to date.
+fn refresh(graph: &Graph, container: NodeId, fired: &Firings, node: NodeId, dues: &mut Dues)
+    requires ready { length dues.old.ready ≡ length (children graph.now container.0) }
+    requires seen { IsSeen graph.now container.0 (outs_at fired.now) dues.old }
+    ensures ready { Refreshes graph.now container.0 (outs_at fired.now) node.0 dues.old.ready dues.new.ready }
+    ensures seen { IsSeen graph.now container.0 (outs_at fired.now) dues.new }
 {
     match place_among(graph, container, node) {
-        None => Ok(()),
+        None => {}
         Some(place) => {
-            let due = is_due(alloc, graph, fired, node)?;
-            ready.put(place, due);
-            Ok(())
+            let value = first_missing_value(graph, fired, node, dues.values[place]);
+            let order = first_missing_order(graph, fired, node, dues.orders[place]);
+            dues.values[place] = value;
+            dues.orders[place] = order;
+            dues.ready
+                .put(place, is_due(graph, fired, node, value, order));
         }
     }
 }
 
-/// Brings the set up to date at some nodes, where it is so at the others.
+/// Looks at some nodes, where all is right at the others.
 pub fn refresh_all(
-    alloc: Global,
     graph: &Graph,
     container: NodeId,
     fired: &Firings,
     nodes: &[NodeId],
-    ready: &mut CountedSet,
-) -> Result<(), AllocError>
-    requires { HasDuesBeside graph.now container.0 (outs_at fired.now) nodes.now ready.old }
-    ensures { OnOk result (HasDues graph.now container.0 (outs_at fired.now) ready.new) }
+    dues: &mut Dues,
+)
+    requires { KnowsDuesBeside graph.now container.0 (outs_at fired.now) nodes.now dues.old }
+    ensures { KnowsDues graph.now container.0 (outs_at fired.now) dues.new }
 {
     for k in 0..nodes.len() {
-        refresh(alloc, graph, container, fired, nodes[k], ready)?;
+        refresh(graph, container, fired, nodes[k], dues);
     }
-    Ok(())
 }
 
 // Takes the child that runs out of the set.
@@ -110,21 +96,32 @@ fn leave_out(
     }
 }
 
+// Nothing is ready, and nothing has come, for so many children.
+fn no_dues(alloc: Global, count: usize) -> Result<Dues, AllocError>
+    ensures { IfOk result (λ dues. AreNone count dues) }
+{
+    Ok(Dues {
+        ready: CountedSet::new(alloc, count)?,
+        values: vec![in alloc; 0; count]?,
+        orders: vec![in alloc; 0; count]?,
+    })
+}
+
 /// The children that are ready as a region opens, but for the one that runs.
 pub fn first_due(
     alloc: Global,
     graph: &Graph,
     container: NodeId,
     running: NodeId,
-) -> Result<CountedSet, AllocError>
-    ensures { IfOk result (λ ready. HasOtherDues graph.now container.0 (outs_at []) running.0 ready) }
+) -> Result<Dues, AllocError>
+    ensures { IfOk result (λ dues. KnowsOtherDues graph.now container.0 (outs_at []) running.0 dues) }
 {
     let nodes = children_of(graph, container);
     let fired = Firings::new(alloc);
-    let mut ready = CountedSet::new(alloc, nodes.len())?;
-    refresh_all(alloc, graph, container, &fired, nodes, &mut ready)?;
-    leave_out(graph, container, running, &fired, &mut ready);
-    Ok(ready)
+    let mut dues = no_dues(alloc, nodes.len())?;
+    refresh_all(graph, container, &fired, nodes, &mut dues);
+    leave_out(graph, container, running, &fired, &mut dues.ready);
+    Ok(dues)
 }
 
 // Takes the next pick, and the place that it names among those in the set, which is taken out; none where the set is
@@ -149,16 +146,16 @@ pub fn take_due(
     graph: &Graph,
     container: NodeId,
     fired: &Firings,
-    ready: &mut CountedSet,
+    dues: &mut Dues,
     picks: &mut VecDeque<u32>,
 ) -> Result<Option<Ready>, AllocError>
-    requires { HasDues graph.now container.0 (outs_at fired.now) ready.old }
+    requires { KnowsDues graph.now container.0 (outs_at fired.now) dues.old }
     ensures choice { IfOk result (λ found. (s : Plain) → s.picks ≡ picks.old.items
         → MatchOption found (choose (spec.ready graph.now container.0 (outs_at fired.now)) s ≡ Stopped Stuck (record s { picks = picks.new.items }))
         (λ r. choose (spec.ready graph.now container.0 (outs_at fired.now)) s ≡ Returned (ready_view r) (record s { picks = picks.new.items }))) }
-    ensures rest { IfOk result (λ found. IfSome found (λ r. HasOtherDues graph.now container.0 (outs_at fired.now) r.node.0 ready.new)) }
+    ensures rest { IfOk result (λ found. IfSome found (λ r. KnowsOtherDues graph.now container.0 (outs_at fired.now) r.node.0 dues.new)) }
 {
-    match take_place(ready, picks) {
+    match take_place(&mut dues.ready, picks) {
         None => Ok(None),
         Some(place) => match child_of(graph, container, place as u64) {
             None => Ok(None),

@@ -23,6 +23,7 @@ mod tables;
 mod tell_fault;
 mod telling;
 mod value;
+mod waiting;
 
 pub use fault::RunFault;
 pub use named::run;

@@ -14,15 +14,14 @@ ghost use Rattle.hg_run.specs.code.StateView.{ready_view, place_of, listed};
 ghost use Rattle.hg_run.specs.code.ValueView.{value_view};
 
 use crate::firings::Firings;
-use crate::reads::{child_fires, children_of, static_input};
-use crate::state::Ready;
+use crate::reads::static_input;
 use crate::value::{Value, Values};
 use hg_graph::{Graph, Link, NodeId, Port};
 use std::alloc::{AllocError, Global};
 use std::collections::VecDeque;
 
-// The value at a port.
-fn value_from(fired: &Firings, from: Option<Port>) -> Option<&Value>
+/// The value at a port.
+pub fn value_from(fired: &Firings, from: Option<Port>) -> Option<&Value>
     ensures { option_map value_view (option_copied result) ≡ value_of (outs_at fired.now) (option_map port_view from) }
 {
     match from {
@@ -54,8 +53,8 @@ pub fn inputs_of(
     Ok(Some(ins))
 }
 
-// Whether the source of a link has fired, where it is an order link into a node.
-fn order_is_kept(link: Option<Link>, fired: &Firings, node: NodeId) -> bool
+/// Whether the source of a link has fired, where it is an order link into a node.
+pub fn order_is_kept(link: Option<Link>, fired: &Firings, node: NodeId) -> bool
     ensures { result ≡ order_at (outs_at fired.now) node.0 (option_map link_view link) }
 {
     match link {
@@ -64,48 +63,7 @@ fn order_is_kept(link: Option<Link>, fired: &Firings, node: NodeId) -> bool
     }
 }
 
-// Whether the sources of all order links into a node have fired.
-fn orders_are_kept(graph: &Graph, fired: &Firings, node: NodeId) -> bool
-    ensures { result ≡ orders_kept graph.now.links (outs_at fired.now) node.0 }
-{
-    if node.0 >= graph.node_count() {
-        return true;
-    }
-    let numbers = graph.orders_into(node);
-    for k in 0..numbers.len() {
-        if !order_is_kept(graph.link_at(numbers[k]), fired, node) {
-            return false;
-        }
-    }
-    true
-}
-
-// Whether a node hasn't fired, and the sources of its order links have.
-fn is_open(graph: &Graph, fired: &Firings, node: NodeId) -> bool
-    ensures { result ≡ (not (has_fired (outs_at fired.now) node.0) && orders_kept graph.now.links (outs_at fired.now) node.0) }
-{
-    fired.get(node).is_none() && orders_are_kept(graph, fired, node)
-}
-
-// The node with its inputs, where it is ready.
-pub fn candidate_of(
-    alloc: Global,
-    graph: &Graph,
-    fired: &Firings,
-    node: NodeId,
-) -> Result<Option<Ready>, AllocError>
-    ensures { IfOk result (λ found. option_map ready_view found ≡ candidate graph.now (outs_at fired.now) node.0) }
-{
-    if !is_open(graph, fired, node) {
-        return Ok(None);
-    }
-    match inputs_of(alloc, graph, fired, node)? {
-        None => Ok(None),
-        Some(ins) => Ok(Some(Ready { node, ins })),
-    }
-}
-
-// Takes the next pick, counted round: a place below the count.
+/// Takes the next pick, counted round: a place below the count.
 pub fn next_place(picks: &mut VecDeque<u32>, count: usize) -> usize
     requires { 0 < count }
     ensures place { result ≡ place_of picks.old.items count }

@@ -15,10 +15,9 @@ ghost use Rattle.hg_steps.specs.Measure.{is_done_with};
 ghost use Rattle.hg_run.specs.code.StateView.{frame_view, frame_list, task_view, plain, ready_view};
 ghost use Rattle.hg_graph.specs.Valid.{KeepsTags};
 ghost use Rattle.hg_run.specs.code.Stepped.{Makes, MakesStill, Keeps, KeepsStill, TagsAreKept, FrameKeeps, FramesKeep};
-ghost use Rattle.hg_run.specs.code.Due.{HasDues, HasOtherDues};
+ghost use Rattle.hg_run.specs.code.Due.{KnowsDues, KnowsOtherDues};
 ghost use Rattle.hg_run.specs.code.TablesView.{HasTables};
 
-use crate::counted_set::CountedSet;
 use crate::due::{first_due, refresh_all, take_due};
 use crate::firings::Firings;
 use crate::followers::followers_at;
@@ -26,7 +25,7 @@ use crate::functions::callee;
 use crate::leaf::perform;
 use crate::picking::inputs_of;
 use crate::reads::{child_of, firing_count, first_taker, op_of, static_input};
-use crate::state::{Done, Frame, Halt, Machine, Ready, Stepped, Task};
+use crate::state::{Done, Dues, Frame, Halt, Machine, Ready, Stepped, Task};
 use crate::tables::Tables;
 use crate::value::{Value, Values};
 use gp_base::Name;
@@ -68,7 +67,7 @@ fn open(
         output,
         running: input,
         fired: Firings::new(alloc),
-        ready: first_due(alloc, graph, node, input)?,
+        dues: first_due(alloc, graph, node, input)?,
         left: firing_count(graph, node),
     })?;
     Ok(Stepped::Goes(Task::Give(ins), None))
@@ -378,16 +377,16 @@ fn choose_child(
     graph: &Graph,
     container: NodeId,
     fired: &Firings,
-    ready: &mut CountedSet,
+    dues: &mut Dues,
     machine: &mut Machine,
 ) -> Result<Option<Ready>, AllocError>
-    requires { HasDues graph.now container.0 (outs_at fired.now) ready.old }
+    requires { KnowsDues graph.now container.0 (outs_at fired.now) dues.old }
     ensures choice { IfOk result (λ found. (events : List Event) → MatchOption found
         (choose (spec_run.ready graph.now container.0 (outs_at fired.now)) (plain machine.old events) ≡ Stopped Stuck (plain machine.new events))
         (λ r. choose (spec_run.ready graph.now container.0 (outs_at fired.now)) (plain machine.old events) ≡ Returned (ready_view r) (plain machine.new events))) }
-    ensures rest { IfOk result (λ found. IfSome found (λ r. HasOtherDues graph.now container.0 (outs_at fired.now) r.node.0 ready.new)) }
+    ensures rest { IfOk result (λ found. IfSome found (λ r. KnowsOtherDues graph.now container.0 (outs_at fired.now) r.node.0 dues.new)) }
 {
-    take_due(alloc, graph, container, fired, ready, &mut machine.picks)
+    take_due(alloc, graph, container, fired, dues, &mut machine.picks)
 }
 
 // The next child of a frame fires.
@@ -402,18 +401,18 @@ fn go_on(
     requires tags { TagsAreKept graph.now }
     requires tables { HasTables graph.now tables.now }
     requires more { 0 < frame.left }
-    requires due { HasDues graph.now frame.container.0 (outs_at frame.fired) frame.ready }
+    requires due { KnowsDues graph.now frame.container.0 (outs_at frame.fired) frame.dues }
     requires keep { FramesKeep graph.now frames.old.items }
     ensures kept { OnOk result (FramesKeep graph.now frames.new.items) }
     ensures step { IfOk result (λ how. Makes (give_step graph.now frame.left (frame_view frame) frame.fired (frame_list frames.old.items)) machine.old how frames.new.items machine.new) }
 {
-    let mut ready = frame.ready;
+    let mut dues = frame.dues;
     match choose_child(
         alloc,
         graph,
         frame.container,
         &frame.fired,
-        &mut ready,
+        &mut dues,
         machine,
     )? {
         None => Ok(Stepped::Halts(Halt::Stuck)),
@@ -423,7 +422,7 @@ fn go_on(
                 output: frame.output,
                 running: chosen.node,
                 fired: frame.fired,
-                ready,
+                dues,
                 left: frame.left - 1,
             })?;
             match op_of(graph, chosen.node) {
@@ -452,21 +451,20 @@ fn give(
     ensures step { IfOk result (λ how. Makes (give_step graph.now frame.left (frame_view frame) (kept graph.now (frame_view frame) outs) (frame_list frames.old.items)) machine.old how frames.new.items machine.new) }
 {
     let fired = frame.fired.push(frame.running, outs)?;
-    let mut ready = frame.ready;
+    let mut dues = frame.dues;
     refresh_all(
-        alloc,
         graph,
         frame.container,
         &fired,
         followers_at(&tables.followers, frame.running),
-        &mut ready,
-    )?;
+        &mut dues,
+    );
     let frame = Frame {
         container: frame.container,
         output: frame.output,
         running: frame.running,
         fired,
-        ready,
+        dues,
         left: frame.left,
     };
     if frame.left == 0 {

@@ -1,17 +1,14 @@
 -- Which children of a region are ready to fire, kept as a set of their places.
-use Rattle.std.specs.Prelude.{◌≡◌, ℕ, Bool, true, false, not, ◌&&◌, ◌||◌, ◌==◌, if◌then◌else◌, List, [], ◌∷◌, ◌++◌, length, take, slice_get, slice_index_or, slice_set, Option, Some, None, is_some}
+use Rattle.std.specs.Prelude.{◌≡◌, ℕ, Bool, true, false, not, ◌&&◌, ◌||◌, ◌==◌, if◌then◌else◌, List, [], ◌∷◌, ◌++◌, length, replicate, take, slice_get, slice_index_or, slice_set, Option, Some, None}
 use Rattle.gp_base.specs.Membership.{In}
-use Rattle.hg_ops.specs.Op.{fires}
-use Rattle.hg_graph.specs.Graph.{Graph, Link, Ports, Order, op_at, children}
-use Rattle.hg_graph.specs.Run.{Look, candidate}
+use Rattle.hg_graph.specs.Graph.{Graph, Link, Ports, Order, children}
+use Rattle.hg_graph.specs.Run.{Look}
 use Rattle.hg_graph.specs.declared.link.NodeId.{NodeId}
 use Rattle.hg_steps.specs.Counters.{source_of}
 use Rattle.hg_run.specs.code.CountedSetView.{ones}
 use Rattle.hg_run.specs.code.StateView.{place_of}
-
--- a child that fires and is ready
-abbrev pub is_due : Graph → Look → ℕ → Bool
-is_due g look n = fires (op_at g n) && is_some (candidate g look n)
+use Rattle.hg_run.specs.code.Waits.{is_due, value_came, order_came, HaveSeen}
+use Rattle.hg_run.specs.declared.state.Dues.{Dues}
 
 -- the node is in the list
 abbrev pub is_among : ℕ → List NodeId → Bool
@@ -46,6 +43,31 @@ IsPlace g c n (Some place) = (slice_get (children g c) place ≡ Some n) × ((p 
 pub record Refreshes (g : Graph) (c : ℕ) (look : Look) (node : ℕ) (before after : List Bool) : Type 0 where
   pub all : length after ≡ length before
   pub at : (p n : ℕ) → slice_get (children g c) p ≡ Some n → slice_index_or after p false ≡ (if node == n then is_due g look n else slice_index_or before p false)
+
+-- what is known to have come to the children has come
+pub record IsSeen (g : Graph) (c : ℕ) (look : Look) (dues : Dues) : Type 0 where
+  pub values : HaveSeen g c (value_came g look) dues.values.items
+  pub orders : HaveSeen g c (order_came g look) dues.orders.items
+
+-- all is right about the children, but maybe not at some nodes
+pub record KnowsDuesBeside (g : Graph) (c : ℕ) (look : Look) (nodes : List NodeId) (dues : Dues) : Type 0 where
+  pub ready : HasDuesBeside g c look nodes dues.ready
+  pub seen : IsSeen g c look dues
+
+abbrev pub KnowsDues : Graph → ℕ → Look → Dues → Type 0
+KnowsDues g c look dues = KnowsDuesBeside g c look [] dues
+
+-- all is right, but that the child that runs is left out
+pub record KnowsOtherDues (g : Graph) (c : ℕ) (look : Look) (running : ℕ) (dues : Dues) : Type 0 where
+  pub ready : HasOtherDues g c look running dues.ready
+  pub seen : IsSeen g c look dues
+  pub first : look running ≡ None
+
+-- nothing is known yet of so many children
+pub record AreNone (count : ℕ) (dues : Dues) : Type 0 where
+  pub ready : dues.ready ≡ replicate count false
+  pub values : dues.values.items ≡ replicate count 0
+  pub orders : dues.orders.items ≡ replicate count 0
 
 -- a member was taken out, by a pick
 pub record Takes (picks : List ℕ) (before : List Bool) (place : ℕ) (left : List Bool) : Type 0 where

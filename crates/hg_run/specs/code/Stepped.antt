@@ -7,7 +7,7 @@ use Rattle.hg_graph.specs.Graph.{Graph, op_at}
 use Rattle.hg_graph.specs.Valid.{KeepsTags}
 use Rattle.gp_base.specs.Membership.{In}
 use Rattle.hg_graph.specs.Run.{outs_at}
-use Rattle.hg_run.specs.code.Due.{HasOtherDues}
+use Rattle.hg_run.specs.code.Due.{KnowsOtherDues}
 use Rattle.hg_graph.specs.Value.{Value}
 use Rattle.hg_run.specs.declared.state.Frame.{Frame as DeclaredFrame}
 use Rattle.hg_run.specs.declared.state.Machine.{Machine}
@@ -54,7 +54,7 @@ TagsAreKept g = (n : ℕ) → KeepsTags (op_at g n)
 
 -- the set of an open region has the other children that are due
 abbrev pub FrameKeeps : Graph → DeclaredFrame → Type 0
-FrameKeeps g f = HasOtherDues g f.container.0 (outs_at f.fired) f.running.0 f.ready
+FrameKeeps g f = KnowsOtherDues g f.container.0 (outs_at f.fired) f.running.0 f.dues
 
 abbrev pub FramesKeep : Graph → List DeclaredFrame → Type 0
 FramesKeep g frames = (f : DeclaredFrame) → In f frames → FrameKeeps g f

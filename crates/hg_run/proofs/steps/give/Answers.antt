@@ -2,9 +2,9 @@ use Rattle.std.proofs.Common.{subst, sym, ap, ◌∙◌, refl, ◌≡◌}
 use Rattle.std.specs.Prelude.{List}
 use Rattle.hg_graph.specs.Run.{Fired, outs_at}
 use Rattle.hg_graph.specs.declared.link.NodeId.{NodeId}
-use Rattle.hg_run.specs.code.Due.{HasDuesBeside, followers_at}
+use Rattle.hg_run.specs.code.Due.{KnowsDuesBeside, followers_at}
 use Rattle.hg_run.specs.code.FollowersView.{lists_of}
-use Rattle.hg_run.proofs.Elsewhere.{beside}
+use Rattle.hg_run.proofs.Elsewhere.{known_beside}
 use Rattle.hg_steps.specs.Machine.{give_step, kept}
 use Rattle.hg_run.specs.code.StateView.{frame_view, frame_list, plain}
 use Rattle.hg_run.proofs.Parts.{if_ok, give_same}
@@ -27,6 +27,6 @@ returns-else-frame-eq0-clause-step c = if_ok c.go_on.result _ _ c.go_on.ensures.
 
 pub refresh_all-requires : goal.refresh_all-requires
 refresh_all-requires c =
-    subst (λ (nodes : List NodeId). HasDuesBeside c.args.graph.now c.args.frame.container.0 (outs_at c.in_ok-fired.fired) nodes c.args.frame.ready) (sym c.followers_at.ensures)
-    (subst (λ (fired : List Fired). HasDuesBeside c.args.graph.now c.args.frame.container.0 (outs_at fired) (followers_at (lists_of c.args.tables.now.followers) c.args.frame.running.0) c.args.frame.ready) (sym c.in_ok-fired.ensures)
-    (beside c.args.graph.now c.args.frame.container.0 c.args.frame.fired c.args.frame.running.0 c.args.outs (lists_of c.args.tables.now.followers) c.args.frame.ready c.requires.tables.followers c.requires.frame))
+    subst (λ (nodes : List NodeId). KnowsDuesBeside c.args.graph.now c.args.frame.container.0 (outs_at c.in_ok-fired.fired) nodes c.args.frame.dues) (sym c.followers_at.ensures)
+    (subst (λ (fired : List Fired). KnowsDuesBeside c.args.graph.now c.args.frame.container.0 (outs_at fired) (followers_at (lists_of c.args.tables.now.followers) c.args.frame.running.0) c.args.frame.dues) (sym c.in_ok-fired.ensures)
+    (known_beside c.args.graph.now c.args.frame.container.0 c.args.frame.fired c.args.frame.running.0 c.args.outs (lists_of c.args.tables.now.followers) c.args.frame.dues c.requires.tables.followers c.requires.frame))

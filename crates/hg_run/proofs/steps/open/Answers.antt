@@ -1,6 +1,6 @@
 use Rattle.std.proofs.Common.{ap, ◌∙◌, sym, subst, List}
 use Rattle.hg_graph.specs.Run.{Fired, outs_at}
-use Rattle.hg_run.specs.code.Due.{HasOtherDues}
+use Rattle.hg_run.specs.code.Due.{KnowsOtherDues}
 use Rattle.hg_run.proofs.Framed.{keep_more}
 use Rattle.gp_base.specs.Run.{Returned}
 use Rattle.hg_steps.specs.Machine.{opens, Gives}
@@ -26,4 +26,4 @@ returns-clause-step c = λ m events.
 pub returns-clause-kept : goal.returns-clause-kept
 returns-clause-kept c =
     keep_more c.args.graph.now c.args.frames.now.items c.push.new.self.items _ c.in_ok-push.ensures.items c.requires
-    (subst (λ (fired : List Fired). HasOtherDues c.args.graph.now c.args.node.0 (outs_at fired) c.in-Some.input.0 c.in_ok-first_due.field-0) (sym c.new.ensures) c.in_ok-first_due.ensures)
+    (subst (λ (fired : List Fired). KnowsOtherDues c.args.graph.now c.args.node.0 (outs_at fired) c.in-Some.input.0 c.in_ok-first_due.field-0) (sym c.new.ensures) c.in_ok-first_due.ensures)

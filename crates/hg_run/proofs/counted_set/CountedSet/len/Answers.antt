@@ -1,4 +1,3 @@
-use Rattle.std.proofs.Common.{◌∙◌}
 use Rattle.hg_run.proofs.Counts.{root}
 use Rattle.hg_run.proofs.counted_set.CountedSet.len.Goals as goal
 

@@ -1,6 +1,6 @@
 use Rattle.std.proofs.Common.{◌≡◌, ◌+◌, ◌*◌, refl, arith}
 use Rattle.hg_run.specs.code.CountedSetView.{count_at}
-use Rattle.hg_run.proofs.Counts.{at_root, above, to_left, to_right, found, rank_before}
+use Rattle.hg_run.proofs.Counts.{at_root, to_left, to_right, found, rank_before}
 use Rattle.hg_run.proofs.counted_set.CountedSet.nth.Goals as goal
 use Rattle.hg_run.proofs.counted_set.CountedSet.nth.Goals.{then-left-rest, else-left-rest}
 

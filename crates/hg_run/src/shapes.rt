@@ -1,7 +1,6 @@
 //! Values taken apart, by the kinds that an op takes.
 
 ghost use Rattle.std.specs.Prelude.{◌≡◌, [], ◌∷◌, MatchOption, IfOk};
-ghost use Rattle.std.specs.Option.{option_map};
 ghost use Rattle.hg_graph.specs.Run.{with_qubit, with_two_qubits, with_three_qubits, with_angle};
 ghost use Rattle.hg_graph.specs.Run.{with_int, with_two_ints, with_bool, with_two_bools};
 ghost use Rattle.hg_graph.specs.Value as spec;

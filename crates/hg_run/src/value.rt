@@ -61,9 +61,9 @@ impl Model for Values {
 
 impl Values {
     ghost use Rattle.std.specs.Prelude.{◌≡◌, ◌∷◌, ◌++◌, [], map, slice_get};
-    ghost use Rattle.std.specs.Prelude.{IfOk, OnOk, IfSome, MatchOption};
+    ghost use Rattle.std.specs.Prelude.{IfOk, OnOk};
     ghost use Rattle.std.specs.Option.{option_copied, option_map};
-    ghost use Rattle.hg_graph.specs.Value.{values, packed};
+    ghost use Rattle.hg_graph.specs.Value.{values};
     ghost use Rattle.hg_graph.specs.Value as spec;
     ghost use Rattle.hg_steps.specs.Machine.{variant_of, function_of};
     ghost use Rattle.hg_run.specs.code.ValueView.{value_view};

@@ -8,12 +8,13 @@ use std::marker::Model;
 
 /// A set of places below a fixed length. A contract sees it as a list of flags, one for each place.
 ///
-/// A change and the search for the member of a given rank take steps in proportion to the logarithm of the length.
+/// A change, and the search for the member of a given rank, take steps in proportion to the logarithm
+/// of the length.
 #[derive(Drop)]
 pub struct CountedSet {
     flags: Vec<bool>,
-    // How many members each inner node of a complete binary tree has below it. The root is at 1, the children of the
-    // node at `k` are at `2 * k` and at `2 * k + 1`, and past these nodes come the flags.
+    // How many members each inner node of a complete binary tree has below it. The root is at 1, the
+    // children of the node at `k` are at `2 * k` and at `2 * k + 1`, and past these nodes come the flags.
     counts: Vec<usize>,
     // how many steps lead from the root to the flags
     depth: usize,

@@ -1,15 +1,13 @@
 //! Which children of a region are ready to fire: a set of their places that is kept as they fire.
 
-ghost use Rattle.std.specs.Prelude.{◌≡◌, [], ℕ, IfOk, OnOk, IfSome, MatchOption, length, drop};
+ghost use Rattle.std.specs.Prelude.{◌≡◌, [], ℕ, IfOk, IfSome, length, drop};
 ghost use Rattle.std.specs.Option.{IfNone};
-ghost use Rattle.gp_base.specs.Run.{Returned, Stopped, Stuck};
 ghost use Rattle.hg_graph.specs.Graph.{children};
-ghost use Rattle.hg_graph.specs.Run.{outs_at, choose};
-ghost use Rattle.hg_graph.specs.Run as spec;
+ghost use Rattle.hg_graph.specs.Run.{outs_at, choose, ready};
 ghost use Rattle.hg_steps.specs.Machine.{Plain};
 ghost use Rattle.hg_run.specs.code.CountedSetView.{ones};
 ghost use Rattle.hg_run.specs.code.Due.{AreNone, HasDues, HasOtherDues, IsPlace, IsSeen, KnowsDues, KnowsDuesBeside, KnowsOtherDues, Refreshes, Takes};
-ghost use Rattle.hg_run.specs.code.StateView.{ready_view};
+ghost use Rattle.hg_run.specs.code.StateView.{EndsChoice};
 
 use crate::counted_set::CountedSet;
 use crate::firings::Firings;
@@ -47,7 +45,8 @@ fn place_among(graph: &Graph, container: NodeId, node: NodeId) -> Option<usize>
 fn refresh(graph: &Graph, container: NodeId, fired: &Firings, node: NodeId, dues: &mut Dues)
     requires ready { length dues.old.ready ≡ length (children graph.now container.0) }
     requires seen { IsSeen graph.now container.0 (outs_at fired.now) dues.old }
-    ensures ready { Refreshes graph.now container.0 (outs_at fired.now) node.0 dues.old.ready dues.new.ready }
+    ensures ready { Refreshes graph.now container.0 (outs_at fired.now) node.0
+        dues.old.ready dues.new.ready }
     ensures seen { IsSeen graph.now container.0 (outs_at fired.now) dues.new }
 {
     match place_among(graph, container, node) {
@@ -114,7 +113,8 @@ pub fn first_due(
     container: NodeId,
     running: NodeId,
 ) -> Result<Dues, AllocError>
-    ensures { IfOk result (λ dues. KnowsOtherDues graph.now container.0 (outs_at []) running.0 dues) }
+    ensures { IfOk result (λ dues.
+        KnowsOtherDues graph.now container.0 (outs_at []) running.0 dues) }
 {
     let nodes = children_of(graph, container);
     let fired = Firings::new(alloc);
@@ -124,8 +124,8 @@ pub fn first_due(
     Ok(dues)
 }
 
-// Takes the next pick, and the place that it names among those in the set, which is taken out; none where the set is
-// empty.
+// Takes the next pick, and the place that it names among those in the set, which is taken out; none
+// where the set is empty.
 fn take_place(ready: &mut CountedSet, picks: &mut VecDeque<u32>) -> Option<usize>
     ensures none { IfNone result ((ones ready.old ≡ 0) × (picks.new.items ≡ picks.old.items)) }
     ensures place { IfSome result (λ place. Takes picks.old.items ready.old place ready.new) }
@@ -151,9 +151,10 @@ pub fn take_due(
 ) -> Result<Option<Ready>, AllocError>
     requires { KnowsDues graph.now container.0 (outs_at fired.now) dues.old }
     ensures choice { IfOk result (λ found. (s : Plain) → s.picks ≡ picks.old.items
-        → MatchOption found (choose (spec.ready graph.now container.0 (outs_at fired.now)) s ≡ Stopped Stuck (record s { picks = picks.new.items }))
-        (λ r. choose (spec.ready graph.now container.0 (outs_at fired.now)) s ≡ Returned (ready_view r) (record s { picks = picks.new.items }))) }
-    ensures rest { IfOk result (λ found. IfSome found (λ r. KnowsOtherDues graph.now container.0 (outs_at fired.now) r.node.0 dues.new)) }
+        → EndsChoice (choose (ready graph.now container.0 (outs_at fired.now)) s) found
+        (record s { picks = picks.new.items })) }
+    ensures rest { IfOk result (λ found. IfSome found (λ r.
+        KnowsOtherDues graph.now container.0 (outs_at fired.now) r.node.0 dues.new)) }
 {
     match take_place(&mut dues.ready, picks) {
         None => Ok(None),

@@ -22,7 +22,8 @@ use std::collections::VecDeque;
 
 /// The value at a port.
 pub fn value_from(fired: &Firings, from: Option<Port>) -> Option<&Value>
-    ensures { option_map value_view (option_copied result) ≡ value_of (outs_at fired.now) (option_map port_view from) }
+    ensures { option_map value_view (option_copied result)
+        ≡ value_of (outs_at fired.now) (option_map port_view from) }
 {
     match from {
         None => None,

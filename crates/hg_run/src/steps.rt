@@ -7,12 +7,11 @@ ghost use Rattle.hg_ops.specs.OpView.{op_view};
 ghost use Rattle.hg_graph.specs.Graph.{Graph, op_at};
 ghost use Rattle.gp_base.specs.Run.{Returned, Stopped, Stuck, or_stuck};
 ghost use Rattle.gp_base.specs.declared.event.Event.{Event};
-ghost use Rattle.hg_graph.specs.Run.{choose, outs_at, constant, name_of_function};
-ghost use Rattle.hg_graph.specs.Run as spec_run;
+ghost use Rattle.hg_graph.specs.Run.{choose, ready, outs_at, constant, name_of_function};
 ghost use Rattle.hg_graph.specs.Value as spec;
 ghost use Rattle.hg_steps.specs.Machine.{Plain, variant_of, enters_after_turn, opens, enter_step, fire_step, leaf_step, jump_step, close_step, give_step, kept, step_on};
 ghost use Rattle.hg_steps.specs.Measure.{is_done_with};
-ghost use Rattle.hg_run.specs.code.StateView.{frame_view, frame_list, task_view, plain, ready_view};
+ghost use Rattle.hg_run.specs.code.StateView.{EndsChoice, frame_view, frame_list, task_view, plain};
 ghost use Rattle.hg_graph.specs.Valid.{KeepsTags};
 ghost use Rattle.hg_run.specs.code.Stepped.{Makes, MakesStill, Keeps, KeepsStill, TagsAreKept, FrameKeeps, FramesKeep};
 ghost use Rattle.hg_run.specs.code.Due.{KnowsDues, KnowsOtherDues};
@@ -54,7 +53,9 @@ fn open(
 ) -> Result<Stepped, AllocError>
     requires { FramesKeep graph.now frames.old.items }
     ensures kept { OnOk result (FramesKeep graph.now frames.new.items) }
-    ensures step { IfOk result (λ how. MakesStill (opens graph.now node.0 ins (frame_list frames.old.items)) how frames.new.items) }
+    ensures step { IfOk result (λ how.
+        MakesStill (opens graph.now node.0 ins (frame_list frames.old.items))
+        how frames.new.items) }
 {
     let Some(input) = child_of(graph, node, 0) else {
         return Ok(Stepped::Halts(Halt::Stuck));
@@ -75,7 +76,8 @@ fn open(
 
 // Goes into the case of a `Conditional`.
 fn enter_case(graph: &Graph, node: NodeId, ins: Values) -> Result<Stepped, AllocError>
-    ensures { IfOk result (λ how. (rows : List Types) (types outs : Types) → KeepsStill (enter_step graph.now (op.Conditional rows types outs) node.0 ins) how) }
+    ensures { IfOk result (λ how. (rows : List Types) (types outs : Types) →
+        KeepsStill (enter_step graph.now (op.Conditional rows types outs) node.0 ins) how) }
 {
     match ins.choose()? {
         None => Ok(Stepped::Halts(Halt::Stuck)),
@@ -88,7 +90,8 @@ fn enter_case(graph: &Graph, node: NodeId, ins: Values) -> Result<Stepped, Alloc
 
 // Goes into the first block of a `Cfg`.
 fn enter_first(graph: &Graph, node: NodeId, ins: Values) -> Stepped
-    ensures { (types outs : Types) → KeepsStill (enter_step graph.now (op.Cfg types outs) node.0 ins) result }
+    ensures { (types outs : Types) →
+        KeepsStill (enter_step graph.now (op.Cfg types outs) node.0 ins) result }
 {
     match child_of(graph, node, 0) {
         None => Stepped::Halts(Halt::Stuck),
@@ -108,7 +111,9 @@ fn enter(
 ) -> Result<Stepped, AllocError>
     requires { FramesKeep graph.now frames.old.items }
     ensures kept { OnOk result (FramesKeep graph.now frames.new.items) }
-    ensures step { IfOk result (λ how. MakesStill (enter_step graph.now (op_view op.now) node.0 ins (frame_list frames.old.items)) how frames.new.items) }
+    ensures step { IfOk result (λ how.
+        MakesStill (enter_step graph.now (op_view op.now) node.0 ins (frame_list frames.old.items))
+        how frames.new.items) }
 {
     match op {
         OpKind::FuncDefn { .. }
@@ -124,7 +129,8 @@ fn enter(
 
 // Calls the function that a `Call` names.
 fn call(graph: &Graph, node: NodeId, ins: Values, machine: &mut Machine) -> Stepped
-    ensures { (types outs : Types) → Keeps (fire_step graph.now (op.Call types outs) node.0 ins) machine.old result machine.new }
+    ensures { (types outs : Types) →
+        Keeps (fire_step graph.now (op.Call types outs) node.0 ins) machine.old result machine.new }
 {
     match graph.feeder(static_input(graph, node)) {
         None => Stepped::Halts(Halt::Stuck),
@@ -142,7 +148,9 @@ fn call_value(
     machine: &mut Machine,
 ) -> Stepped
     requires { HasTables graph.now tables.now }
-    ensures { (node : ℕ) → Keeps (fire_step graph.now (op.CallIndirect types.now outs.now) node ins) machine.old result machine.new }
+    ensures { (node : ℕ) →
+        Keeps (fire_step graph.now (op.CallIndirect types.now outs.now) node ins)
+        machine.old result machine.new }
 {
     match ins.called() {
         None => Stepped::Halts(Halt::Stuck),
@@ -157,7 +165,8 @@ fn call_value(
 
 // The number of a `Const`.
 fn constant_of(op: &OpKind) -> Option<i64>
-    ensures { MatchOption result ((s : Plain) → constant (op_view op.now) s ≡ Stopped Stuck s) (λ n. op_view op.now ≡ Const n) }
+    ensures { MatchOption result ((s : Plain) → constant (op_view op.now) s ≡ Stopped Stuck s)
+        (λ n. op_view op.now ≡ Const n) }
 {
     match op {
         OpKind::Const { value } => Some(*value),
@@ -167,7 +176,8 @@ fn constant_of(op: &OpKind) -> Option<i64>
 
 // The values that a `LoadConstant` gives, by the node that it names.
 fn loaded(alloc: Global, graph: &Graph, node: NodeId) -> Result<Option<Values>, AllocError>
-    ensures { IfOk result (λ found. (s : Plain) → constant (op_at graph.now node.0) s ≡ or_stuck found s) }
+    ensures { IfOk result (λ found. (s : Plain) → constant (op_at graph.now node.0) s
+        ≡ or_stuck found s) }
 {
     match op_of(graph, node) {
         None => Ok(None),
@@ -184,7 +194,8 @@ fn loaded(alloc: Global, graph: &Graph, node: NodeId) -> Result<Option<Values>, 
 
 // Gives the number of the `Const` that a `LoadConstant` names.
 fn load(alloc: Global, graph: &Graph, node: NodeId) -> Result<Stepped, AllocError>
-    ensures { IfOk result (λ how. (ins : List spec.Value) → KeepsStill (fire_step graph.now op.LoadConstant node.0 ins) how) }
+    ensures { IfOk result (λ how. (ins : List spec.Value) →
+        KeepsStill (fire_step graph.now op.LoadConstant node.0 ins) how) }
 {
     match graph.feeder(static_input(graph, node)) {
         None => Ok(Stepped::Halts(Halt::Stuck)),
@@ -197,7 +208,10 @@ fn load(alloc: Global, graph: &Graph, node: NodeId) -> Result<Stepped, AllocErro
 
 // The name of a `FuncDefn`.
 fn function_name(op: &OpKind) -> Option<&Name>
-    ensures { MatchOption result ((s : Plain) → name_of_function (op_view op.now) s ≡ Stopped Stuck s) (λ name. (s : Plain) → name_of_function (op_view op.now) s ≡ Returned (spec.Function name.now ∷ []) s) }
+    ensures { MatchOption result
+        ((s : Plain) → name_of_function (op_view op.now) s ≡ Stopped Stuck s)
+        (λ name. (s : Plain)
+        → name_of_function (op_view op.now) s ≡ Returned (spec.Function name.now ∷ []) s) }
 {
     match op {
         OpKind::FuncDefn { name, .. } => Some(name),
@@ -207,7 +221,8 @@ fn function_name(op: &OpKind) -> Option<&Name>
 
 // The values that a `LoadFunction` gives, by the node that it names.
 fn loaded_function(alloc: Global, graph: &Graph, node: NodeId) -> Result<Option<Values>, AllocError>
-    ensures { IfOk result (λ found. (s : Plain) → name_of_function (op_at graph.now node.0) s ≡ or_stuck found s) }
+    ensures { IfOk result (λ found. (s : Plain) → name_of_function (op_at graph.now node.0) s
+        ≡ or_stuck found s) }
 {
     match op_of(graph, node) {
         None => Ok(None),
@@ -224,7 +239,8 @@ fn loaded_function(alloc: Global, graph: &Graph, node: NodeId) -> Result<Option<
 
 // Gives the function that a `LoadFunction` names.
 fn load_function(alloc: Global, graph: &Graph, node: NodeId) -> Result<Stepped, AllocError>
-    ensures { IfOk result (λ how. (types outs : Types) (ins : List spec.Value) → KeepsStill (fire_step graph.now (op.LoadFunction types outs) node.0 ins) how) }
+    ensures { IfOk result (λ how. (types outs : Types) (ins : List spec.Value) →
+        KeepsStill (fire_step graph.now (op.LoadFunction types outs) node.0 ins) how) }
 {
     match graph.feeder(static_input(graph, node)) {
         None => Ok(Stepped::Halts(Halt::Stuck)),
@@ -243,7 +259,8 @@ fn finish_leaf(
     machine: &mut Machine,
 ) -> Result<Stepped, AllocError>
     requires { KeepsTags (op_view op.now) }
-    ensures { IfOk result (λ how. Keeps (leaf_step (op_view op.now) ins) machine.old how machine.new) }
+    ensures { IfOk result (λ how.
+        Keeps (leaf_step (op_view op.now) ins) machine.old how machine.new) }
 {
     match perform(alloc, op, ins, machine)? {
         Done::Halts(halt) => Ok(Stepped::Halts(halt)),
@@ -264,7 +281,8 @@ fn fire(
 ) -> Result<Stepped, AllocError>
     requires tags { KeepsTags (op_view op.now) }
     requires tables { HasTables graph.now tables.now }
-    ensures { IfOk result (λ how. Keeps (fire_step graph.now (op_view op.now) node.0 ins) machine.old how machine.new) }
+    ensures { IfOk result (λ how.
+        Keeps (fire_step graph.now (op_view op.now) node.0 ins) machine.old how machine.new) }
 {
     match op {
         OpKind::Dfg { .. }
@@ -283,7 +301,9 @@ fn fire(
 
 // After a round of a loop.
 fn after_round(node: NodeId, outs: Values, machine: &mut Machine) -> Result<Stepped, AllocError>
-    ensures { IfOk result (λ how. (again leave rest : Types) (g : Graph) → Keeps (close_step g (op.TailLoop again leave rest) node.0 outs) machine.old how machine.new) }
+    ensures { IfOk result (λ how. (again leave rest : Types) (g : Graph) →
+        Keeps (close_step g (op.TailLoop again leave rest) node.0 outs)
+        machine.old how machine.new) }
 {
     match outs.choose()? {
         None => Ok(Stepped::Halts(Halt::Stuck)),
@@ -301,7 +321,8 @@ fn after_round(node: NodeId, outs: Values, machine: &mut Machine) -> Result<Step
 
 // From a block to where a control link leads.
 fn jump(graph: &Graph, node: NodeId, to: NodeId, ins: Values, machine: &mut Machine) -> Stepped
-    ensures { Keeps (jump_step graph.now (op_at graph.now to.0) node.0 to.0 ins) machine.old result machine.new }
+    ensures { Keeps (jump_step graph.now (op_at graph.now to.0) node.0 to.0 ins)
+        machine.old result machine.new }
 {
     match op_of(graph, to) {
         Some(OpKind::ExitBlock { .. }) => Stepped::Goes(Task::Give(ins), None),
@@ -322,7 +343,9 @@ fn after_block(
     outs: Values,
     machine: &mut Machine,
 ) -> Result<Stepped, AllocError>
-    ensures { IfOk result (λ how. (types others : Types) (rows : List Types) → Keeps (close_step graph.now (op.DataflowBlock types rows others) node.0 outs) machine.old how machine.new) }
+    ensures { IfOk result (λ how. (types others : Types) (rows : List Types) →
+        Keeps (close_step graph.now (op.DataflowBlock types rows others) node.0 outs)
+        machine.old how machine.new) }
 {
     match outs.choose()? {
         None => Ok(Stepped::Halts(Halt::Stuck)),
@@ -347,7 +370,9 @@ fn close(
     outs: Values,
     machine: &mut Machine,
 ) -> Result<Stepped, AllocError>
-    ensures { IfOk result (λ how. Keeps (close_step graph.now (op_at graph.now node.0) node.0 outs) machine.old how machine.new) }
+    ensures { IfOk result (λ how.
+        Keeps (close_step graph.now (op_at graph.now node.0) node.0 outs)
+        machine.old how machine.new) }
 {
     match op_of(graph, node) {
         Some(OpKind::TailLoop { .. }) => after_round(node, outs, machine),
@@ -363,7 +388,8 @@ fn end(
     frame: Frame,
     machine: &mut Machine,
 ) -> Result<Stepped, AllocError>
-    ensures { IfOk result (λ how. Keeps (give_step graph.now 0 (frame_view frame) frame.fired) machine.old how machine.new) }
+    ensures { IfOk result (λ how.
+        Keeps (give_step graph.now 0 (frame_view frame) frame.fired) machine.old how machine.new) }
 {
     match inputs_of(alloc, graph, &frame.fired, frame.output)? {
         None => Ok(Stepped::Halts(Halt::Stuck)),
@@ -381,10 +407,12 @@ fn choose_child(
     machine: &mut Machine,
 ) -> Result<Option<Ready>, AllocError>
     requires { KnowsDues graph.now container.0 (outs_at fired.now) dues.old }
-    ensures choice { IfOk result (λ found. (events : List Event) → MatchOption found
-        (choose (spec_run.ready graph.now container.0 (outs_at fired.now)) (plain machine.old events) ≡ Stopped Stuck (plain machine.new events))
-        (λ r. choose (spec_run.ready graph.now container.0 (outs_at fired.now)) (plain machine.old events) ≡ Returned (ready_view r) (plain machine.new events))) }
-    ensures rest { IfOk result (λ found. IfSome found (λ r. KnowsOtherDues graph.now container.0 (outs_at fired.now) r.node.0 dues.new)) }
+    ensures choice { IfOk result (λ found. (events : List Event)
+        → EndsChoice
+        (choose (ready graph.now container.0 (outs_at fired.now)) (plain machine.old events))
+        found (plain machine.new events)) }
+    ensures rest { IfOk result (λ found. IfSome found (λ r.
+        KnowsOtherDues graph.now container.0 (outs_at fired.now) r.node.0 dues.new)) }
 {
     take_due(alloc, graph, container, fired, dues, &mut machine.picks)
 }
@@ -404,7 +432,9 @@ fn go_on(
     requires due { KnowsDues graph.now frame.container.0 (outs_at frame.fired) frame.dues }
     requires keep { FramesKeep graph.now frames.old.items }
     ensures kept { OnOk result (FramesKeep graph.now frames.new.items) }
-    ensures step { IfOk result (λ how. Makes (give_step graph.now frame.left (frame_view frame) frame.fired (frame_list frames.old.items)) machine.old how frames.new.items machine.new) }
+    ensures step { IfOk result (λ how.
+        Makes (give_step graph.now frame.left (frame_view frame) frame.fired
+        (frame_list frames.old.items)) machine.old how frames.new.items machine.new) }
 {
     let mut dues = frame.dues;
     match choose_child(
@@ -448,7 +478,10 @@ fn give(
     requires frame { FrameKeeps graph.now frame }
     requires keep { FramesKeep graph.now frames.old.items }
     ensures kept { OnOk result (FramesKeep graph.now frames.new.items) }
-    ensures step { IfOk result (λ how. Makes (give_step graph.now frame.left (frame_view frame) (kept graph.now (frame_view frame) outs) (frame_list frames.old.items)) machine.old how frames.new.items machine.new) }
+    ensures step { IfOk result (λ how.
+        Makes (give_step graph.now frame.left (frame_view frame)
+        (kept graph.now (frame_view frame) outs) (frame_list frames.old.items))
+        machine.old how frames.new.items machine.new) }
 {
     let fired = frame.fired.push(frame.running, outs)?;
     let mut dues = frame.dues;
@@ -488,9 +521,11 @@ pub fn step(
     requires keep { FramesKeep graph.now frames.old.items }
     ensures kept { OnOk result (FramesKeep graph.now frames.new.items) }
     ensures step { IfOk result (λ found. MatchOption found
-        ((is_done_with (task_view task) (frame_list frames.old.items) ≡ true) × (machine.new ≡ machine.old))
+        ((is_done_with (task_view task) (frame_list frames.old.items) ≡ true)
+        × (machine.new ≡ machine.old))
         (λ how. (is_done_with (task_view task) (frame_list frames.old.items) ≡ false)
-        × Makes (step_on graph.now (task_view task) (frame_list frames.old.items)) machine.old how frames.new.items machine.new)) }
+        × Makes (step_on graph.now (task_view task) (frame_list frames.old.items))
+        machine.old how frames.new.items machine.new)) }
 {
     match task {
         Task::Enter(node, ins) => match op_of(graph, node) {

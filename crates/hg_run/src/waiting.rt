@@ -1,10 +1,10 @@
-//! What a child of a region waits for: the values at its inputs, and the sources of its order links.
+//! What a child of a region waits for: values at its inputs, and the sources of its order links.
 //!
 //! What has come stays, so that a look begins where the last one ended.
 
 ghost use Rattle.std.specs.Prelude.{◌≡◌, ◌<◌, length};
 ghost use Rattle.hg_graph.specs.Run.{outs_at};
-ghost use Rattle.hg_run.specs.code.Waits.{HaveCome, value_came, order_came, input_count_at, order_count_at, IsFirstMissing, awaits_none, is_due};
+ghost use Rattle.hg_run.specs.code.Waits.{HaveCome, value_came, order_came, IsFirstMissingValue, IsFirstMissingOrder, awaits_none, is_due};
 
 use crate::firings::Firings;
 use crate::picking::{order_is_kept, value_from};
@@ -14,7 +14,7 @@ use hg_graph::{Graph, NodeId, Port};
 /// The first input of a node at which no value has come, or the number of its inputs.
 pub fn first_missing_value(graph: &Graph, fired: &Firings, node: NodeId, from: u64) -> u64
     requires { HaveCome (value_came graph.now (outs_at fired.now) node.0) from }
-    ensures { IsFirstMissing (value_came graph.now (outs_at fired.now) node.0) (input_count_at graph.now node.0) result }
+    ensures { IsFirstMissingValue graph.now (outs_at fired.now) node.0 result }
 {
     let count = static_input(graph, node).index;
     let mut index = from;
@@ -28,7 +28,7 @@ pub fn first_missing_value(graph: &Graph, fired: &Firings, node: NodeId, from: u
 pub fn first_missing_order(graph: &Graph, fired: &Firings, node: NodeId, from: usize) -> usize
     requires node_in { node.0 < length graph.now.nodes }
     requires so_far { HaveCome (order_came graph.now (outs_at fired.now) node.0) from }
-    ensures { IsFirstMissing (order_came graph.now (outs_at fired.now) node.0) (order_count_at graph.now node.0) result }
+    ensures { IsFirstMissingOrder graph.now (outs_at fired.now) node.0 result }
 {
     let numbers = graph.orders_into(node);
     let mut k = from;
@@ -49,11 +49,12 @@ fn awaits_none(graph: &Graph, fired: &Firings, node: NodeId, value: u64, order: 
         && order >= graph.orders_into(node).len()
 }
 
-/// Whether a child fires and is ready, by the first of its inputs and the first of its order links that are missing.
+/// Whether a child fires and is ready, by the first of its inputs and the first of its order links that
+/// are missing.
 pub fn is_due(graph: &Graph, fired: &Firings, node: NodeId, value: u64, order: usize) -> bool
     requires node_in { node.0 < length graph.now.nodes }
-    requires value { IsFirstMissing (value_came graph.now (outs_at fired.now) node.0) (input_count_at graph.now node.0) value }
-    requires order { IsFirstMissing (order_came graph.now (outs_at fired.now) node.0) (order_count_at graph.now node.0) order }
+    requires value { IsFirstMissingValue graph.now (outs_at fired.now) node.0 value }
+    requires order { IsFirstMissingOrder graph.now (outs_at fired.now) node.0 order }
     ensures { result ≡ is_due graph.now (outs_at fired.now) node.0 }
 {
     awaits_none(graph, fired, node, value, order)

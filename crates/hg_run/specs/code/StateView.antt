@@ -1,7 +1,7 @@
 -- What contracts see of the state of a run.
-use Rattle.std.specs.Prelude.{ℕ, ◌%◌, List, [], ◌∷◌, ◌++◌, map, reverse, Option, Some, None}
+use Rattle.std.specs.Prelude.{◌≡◌, ℕ, ◌%◌, List, [], ◌∷◌, ◌++◌, map, reverse, Option, Some, None}
 use Rattle.gp_base.specs.declared.event.Event.{Event}
-use Rattle.gp_base.specs.Run.{Stop}
+use Rattle.gp_base.specs.Run.{Out, Stop}
 use Rattle.gp_base.specs.Run as run
 use Rattle.hg_run.specs.declared.state.Frame.{Frame as DeclaredFrame}
 use Rattle.hg_run.specs.declared.state.Task.{Task as DeclaredTask}
@@ -40,6 +40,11 @@ and_event events (Some e) = events ++ e ∷ []
 
 abbrev pub ready_view : DeclaredReady → Ready
 ready_view r = record { node = r.node.0; ins = r.ins }
+
+-- how a choice has ended
+abbrev pub EndsChoice : Out Plain Ready → Option DeclaredReady → Plain → Type 0
+EndsChoice out None s = out ≡ run.Stopped run.Stuck s
+EndsChoice out (Some r) s = out ≡ run.Returned (ready_view r) s
 
 -- the place that the next pick names among so many, 0 where there is none
 abbrev pub place_of : List ℕ → ℕ → ℕ

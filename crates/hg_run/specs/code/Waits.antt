@@ -42,6 +42,12 @@ pub record IsFirstMissing (came : ℕ → Bool) (count k : ℕ) : Type 0 where
   pub before : HaveCome came k
   pub here : k < count → came k ≡ false
 
+abbrev pub IsFirstMissingValue : Graph → Look → ℕ → ℕ → Type 0
+IsFirstMissingValue g look n k = IsFirstMissing (value_came g look n) (input_count_at g n) k
+
+abbrev pub IsFirstMissingOrder : Graph → Look → ℕ → ℕ → Type 0
+IsFirstMissingOrder g look n k = IsFirstMissing (order_came g look n) (order_count_at g n) k
+
 -- for each child a place before which all have come
 pub record HaveSeen (g : Graph) (c : ℕ) (came : ℕ → ℕ → Bool) (seen : List ℕ) : Type 0 where
   pub all : length seen ≡ length (children g c)

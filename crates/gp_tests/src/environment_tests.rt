@@ -31,9 +31,14 @@ fn both_usable(alloc: Global, names: &Locals, a: Ty, b: Ty) -> Result<Environmen
 }
 
 // The usable names, each with its type, in their order.
-fn listed(alloc: Global, names: &Locals, environment: &Environment) -> Result<String, AllocError> {
+fn listed(
+    alloc: Global,
+    names: &Locals,
+    environment: &mut Environment,
+) -> Result<String, AllocError> {
     let mut text = String::new(alloc);
     let usable = environment.usable(alloc, names)?;
+    let usable = usable.listed(alloc)?;
     for name in usable.as_slice() {
         text.push_str(name.name.as_str())?;
         text.push_str(match &name.ty {
@@ -92,13 +97,13 @@ fn usable_names_are_listed_in_their_order(rt: HostRuntime) -> Result<(), Fail> {
     let names = two_names(alloc)?;
     let mut environment = both_usable(alloc, &names, Ty::Int, Ty::Qubit)?;
     assert_eq!(rt;
-        listed(alloc, &names, &environment)?.as_str(),
+        listed(alloc, &names, &mut environment)?.as_str(),
         "b: qubit, a: int, "
     );
     environment.put(&names, "b", Ty::Bool)?;
     environment.put(&names, "c", Ty::Bool)?;
     assert_eq!(rt;
-        listed(alloc, &names, &environment)?.as_str(),
+        listed(alloc, &names, &mut environment)?.as_str(),
         "b: bool, a: int, "
     );
     Ok(())
@@ -110,8 +115,8 @@ fn paths_join_at_equal_types(rt: HostRuntime) -> Result<(), Fail> {
     let names = two_names(alloc)?;
     let one = both_usable(alloc, &names, Ty::Int, Ty::Qubit)?;
     let other = both_usable(alloc, &names, Ty::Bool, Ty::Qubit)?;
-    let joined = one.join(alloc, &other)?;
-    assert_eq!(rt; listed(alloc, &names, &joined)?.as_str(), "b: qubit, ");
+    let mut joined = one.join(alloc, &other)?;
+    assert_eq!(rt; listed(alloc, &names, &mut joined)?.as_str(), "b: qubit, ");
     assert!(rt; joined.keeps(&one) && joined.keeps(&other) && joined.keeps(&joined.copy(alloc)?));
     assert!(rt; !one.keeps(&other) && !one.keeps(&joined));
     Ok(())

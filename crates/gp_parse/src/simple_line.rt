@@ -11,7 +11,7 @@ ghost use Rattle.gp_parse.specs.code.NestingCode as spec;
 ghost use Rattle.gp_parse.specs.code.NestingViews.{Follows};
 
 use crate::parse_fault::ParseFault;
-use gp_base::{LineNo, Name, Names};
+use gp_base::LineNo;
 use gp_tree::{BinOp, Expr, LineForm, Place, Stmt, Targets};
 use std::alloc::{AllocError, Global};
 
@@ -68,21 +68,9 @@ fn augmented(
 ) -> Result<Stmt, AllocError>
     ensures { IfOk result (λ made. statement made ≡ stmts.assign line (One place) (tree.binary op (tree.place place) (tree.expression value))) }
 {
-    let target = copy_of(alloc, &place)?;
+    let target = place.copy(alloc)?;
     let value = Expr::binary(alloc, op, Expr::Place(place), value)?;
     Ok(Stmt::Assign(line, Targets::One(target), value))
-}
-
-/// The same place once more.
-fn copy_of(alloc: Global, place: &Place) -> Result<Place, AllocError>
-    ensures { IfOk result (λ made. made ≡ place.now) }
-{
-    let name = Name::new(alloc, place.name.as_str())?;
-    let mut fields = Names::new(alloc);
-    for field in place.fields.as_slice() {
-        fields.push(Name::new(alloc, field.as_str())?)?;
-    }
-    Ok(Place { name, fields })
 }
 
 /// The statement behind the colon of a header, if there is one.

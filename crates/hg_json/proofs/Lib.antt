@@ -5,7 +5,12 @@ pub mod Names
 pub mod Pieces
 pub mod Plain
 pub mod Pushes
+pub mod ReadGraphs
+pub mod ReadTexts
+pub mod ReadTypes
+pub mod ReadValues
 pub mod Separated
 pub mod Turns
 pub mod TypeBack
 pub mod TypePushes
+pub mod Yields

@@ -3,7 +3,6 @@ mod Discards
 mod Due
 mod GraphModes
 mod OneAnswer
-mod ReadGraphs
 mod ReadSoFar
 mod ValidTexts
 mod Told

@@ -1,5 +1,5 @@
 -- What graph texts are, and what is due for one that is validated.
-use Rattle.std.proofs.Common.{◌≡◌, ℕ, ◌<◌, ◌≤◌, ◌⊎◌, inl, inr, List, length, Result, Ok, Err, refl, sym, ap, ap₂, subst, arith}
+use Rattle.std.proofs.Common.{◌≡◌, ℕ, ◌<◌, ◌≤◌, ◌^◌, ◌⊎◌, inl, inr, List, length, Result, Ok, Err, refl, sym, ap, ap₂, subst, arith}
 use Rattle.std.specs.Prelude.{codes}
 use Rattle.std.proofs.lemmas.Bool.{cases_lt}
 use Rattle.hg_graph.specs.Graph.{Graph}
@@ -7,8 +7,10 @@ use Rattle.hg_graph.specs.Valid.{IsBroken, number_of}
 use Rattle.hg_json.specs.declared.fault.JsonFault.{JsonFault}
 use Rattle.hg_json.specs.declared.fault.JsonFault.TheVariants as json
 use Rattle.hg_json.specs.Answers.{Refuses}
+use Rattle.hg_json.specs.GraphText as graph_text
 use Rattle.hg_json.specs.Reading as reading
 use Rattle.hg_json.specs.Reading.{graph_of}
+use Rattle.hg_json.proofs.ReadGraphs.{read_is_graph, texts_are_written_anew}
 use Rattle.hg_laws.proofs.Broken.{one_is_broken_lem}
 use Rattle.hg_laws.proofs.Decided.{valid_or_broken_lem}
 use Rattle.hg_valid.specs.Answers.{IsBrokenBy}
@@ -24,7 +26,6 @@ use Rattle.guppy_call.specs.GraphTexts.{graph_text_limit, graph_refusal, IsGraph
 use Rattle.guppy_call.specs.Validity as validity
 use Rattle.guppy_call.specs.Validity.{IsDueValidity}
 use Rattle.guppy_call.specs.OneAnswer.{ValidityForm, RefusedForm, refused_form_of, validity_form_of, GraphTextsHaveOneValidity}
-use Rattle.guppy_call.proofs.ReadGraphs.{read_is_graph}
 
 same_graph : (text : List ℕ) (g h : Graph) → graph_of text ≡ Ok g → graph_of text ≡ Ok h → h ≡ g
 same_graph text g h e f = cc
@@ -75,6 +76,11 @@ valid_or_refused text = elim (cases_lt graph_text_limit (length text)) [
   | inl long ↦ inr (refusal.TooLong, texts.too_long long)
   | inr within ↦ by_graph text within (graph_of text) refl
 ]
+
+-- ---- the text that is written for a graph that was read
+
+pub migrated_texts_read_back : (text : List ℕ) (g : Graph) → IsGraphText text g → length g.nodes < 2 ^ 64 → graph_of (graph_text.json g) ≡ Ok g
+migrated_texts_read_back text g t few = texts_are_written_anew text g t.graph few
 
 -- ---- what the code answers
 

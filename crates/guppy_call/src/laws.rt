@@ -34,8 +34,6 @@ pub fn graph_texts_have_one_run()
 /// What `migrate` writes for the graph of a text is a text of the same graph.
 #[tactic(auto, using(crate::proofs::ValidTexts::migrated_texts_read_back))]
 pub fn migrated_texts_read_back()
-    ensures {
-        (text : List ℕ) (g : Graph) → IsGraphText text g → length g.nodes < 2 ^ 64
-            → graph_of (json g) ≡ Ok g
-    }
+    ensures { (text : List ℕ) (g : Graph) → IsGraphText text g → length g.nodes < 2 ^ 64
+        → graph_of (json g) ≡ Ok g }
 {}

@@ -16,11 +16,13 @@ pub fn written_graphs_read_back()
 /// numbers have 64 bits, names and tags are UTF-8, and each type has a text. Only the number of nodes is left to the premise.
 #[tactic(auto, using(crate::proofs::ReadGraphs::read_graphs_are_spelled))]
 pub fn read_graphs_are_spelled()
-    ensures { (bytes : List ℕ) (g : Graph) → graph_of bytes ≡ Ok g → length g.nodes < 2 ^ 64 → IsInHand g × AreSpelled g }
+    ensures { (bytes : List ℕ) (g : Graph) → graph_of bytes ≡ Ok g → length g.nodes < 2 ^ 64
+        → IsInHand g × AreSpelled g }
 {}
 
 /// What is written for a graph that was read is read as that graph again, whatever text it was read from.
 #[tactic(auto, using(crate::proofs::ReadGraphs::texts_are_written_anew))]
 pub fn texts_are_written_anew()
-    ensures { (bytes : List ℕ) (g : Graph) → graph_of bytes ≡ Ok g → length g.nodes < 2 ^ 64 → graph_of (json g) ≡ Ok g }
+    ensures { (bytes : List ℕ) (g : Graph) → graph_of bytes ≡ Ok g → length g.nodes < 2 ^ 64
+        → graph_of (json g) ≡ Ok g }
 {}

@@ -1,12 +1,12 @@
 -- The turns of a loop over items with commas between them, beside what the reading of them says.
-use Rattle.std.proofs.Common.{◌≡◌, ℕ, suc, ◌+◌, ◌-◌, ◌<◌, ◌≤◌, List, [], ◌∷◌, ◌++◌, length, Option, Some, None, refl, ap, ◌∙◌, arith, append_assoc}
-use Rattle.std.proofs.lemmas.List.{append-nil}
+use Rattle.std.proofs.Common.{◌≡◌, ℕ, suc, ◌+◌, ◌-◌, ◌<◌, ◌≤◌, List, [], ◌∷◌, ◌++◌, length, Option, Some, None, Result, Ok, Err, map, refl, sym, ap, ◌∙◌, arith, append_assoc}
+use Rattle.std.proofs.lemmas.List.{append-nil, map-id}
 use Rattle.gp_lex.specs.declared.token.Symbol.TheVariants as s
 use Rattle.gp_lex.specs.declared.token.Token.{Token}
 use Rattle.gp_form.specs.declared.part_fault.PartFault.{PartFault}
 use Rattle.gp_form.specs.declared.part_fault.PartFault.TheVariants as fault
 use Rattle.gp_form.specs.code.FormReading.{listed_from, listed}
-use Rattle.gp_form.specs.code.Steps.{◌>>=◌, Fails, Read, past_symbol, with_front}
+use Rattle.gp_form.specs.code.Steps.{◌>>=◌, Fails, Gives, Read, past_symbol, with_front}
 use Rattle.gp_form.proofs.Turns.{one_more, no_more}
 
 regroup : {X : Type 0} (front : List X) (x : X) (read : Option (List X × List Token)) → with_front front (read >>= λ y. Some (x ∷ y.0, y.1)) ≡ with_front (front ++ x ∷ []) read
@@ -65,3 +65,22 @@ module _ {X : Type 0} (item : Read X) (closed : List Token → Option (List Toke
     pub listed_run_out : n ≤ at → total ≡ None
     unfolding listed_from
     listed_run_out done = no_more turn n at done so_far
+
+-- ---- what callers of the loop know
+
+pub none_before : {A : Type 0} (read : Option (List A × List Token)) → with_front [] read ≡ read
+none_before (Some x) = refl
+none_before None = refl
+
+-- items that are seen as they are
+pub as_they_are : {A S : Type 0} (behind : S → List Token) (r : Result (List A × S) PartFault) (read : Option (List A × List Token))
+    → Gives (λ x. (map (λ (a : A). a) x.0, behind x.1)) r read → Gives (λ x. (x.0, behind x.1)) r read
+as_they_are {A} {S} behind (Ok x) read h = h ∙ ap (λ (xs : List A). Some (xs, behind x.1)) (map-id x.0)
+as_they_are behind (Err e) read h = h
+
+-- nothing was found before
+pub alone : {A X : Type 0} (view : X → List A × List Token) (r : Result X PartFault) (front : List A) (read : Option (List A × List Token))
+    → front ≡ [] → Gives view r (with_front front read) → Gives view r read
+alone view (Ok x) front read none h = sym (ap (λ f. with_front f read) none ∙ none_before read) ∙ h
+alone view (Err fault.Memory) front read none h = tt
+alone view (Err fault.NotSpelled) front read none h = sym (ap (λ f. with_front f read) none ∙ none_before read) ∙ h

@@ -10,6 +10,7 @@ ghost use Rattle.gp_form.specs.code.Steps.{Gives};
 ghost use Rattle.gp_tree.specs.Form.{form};
 
 use crate::list_end::{ListEnd, past_end};
+use crate::list_item::{ListItem, listed};
 use crate::part_fault::PartFault;
 use crate::place::place_front;
 use crate::soft_keyword::past_soft_word;
@@ -117,25 +118,24 @@ fn bare_names(alloc: Global, tokens: &[Token]) -> Result<Names, PartFault>
     Err(PartFault::NotSpelled)
 }
 
+impl ListItem for Name {
+    ghost use Rattle.std.specs.Prelude.{ℕ, List};
+    ghost use Rattle.gp_form.specs.code.Steps.{past_name};
+
+    ghost Seen = { List ℕ };
+
+    ghost seen = { λ name. name };
+
+    ghost reading = { past_name };
+
+    fn front(_alloc: Global, tokens: &[Token]) -> Result<(Name, &[Token]), PartFault> {
+        name_front(tokens)
+    }
+}
+
 /// Names with commas between them, and behind them a closing parenthesis.
 fn names_inside(alloc: Global, tokens: &[Token]) -> Result<(Names, &[Token]), PartFault>
     ensures { Gives (λ x. (x.0, x.1.now)) result (spec.listed step.past_name (past_end until.Paren) tokens.now) }
 {
-    let mut found = Names::new(alloc);
-    let mut rest = tokens;
-    for _turn in 0..tokens.len() + 1 {
-        if let Some(after) = past_end(rest, ListEnd::Paren) {
-            return Ok((found, after));
-        }
-        let (item, next) = name_front(rest)?;
-        found.push(item)?;
-        if let Some(after) = past_end(next, ListEnd::Paren) {
-            return Ok((found, after));
-        }
-        let Some(after) = past_symbol(next, Symbol::Comma) else {
-            return Err(PartFault::NotSpelled);
-        };
-        rest = after;
-    }
-    Err(PartFault::NotSpelled)
+    listed(alloc, ListEnd::Paren, Names::new(alloc), tokens)
 }

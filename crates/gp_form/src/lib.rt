@@ -12,6 +12,7 @@ mod level;
 mod line;
 mod line_size;
 mod list_end;
+mod list_item;
 mod param;
 mod part_fault;
 mod place;

@@ -7,7 +7,8 @@ ghost use Rattle.gp_form.specs.code.Reading.{past_end};
 ghost use Rattle.gp_form.specs.code.Steps.{Finds, Gives};
 ghost use Rattle.gp_tree.specs.Form.{parameter};
 
-use crate::list_end::{ListEnd, past_end};
+use crate::list_end::ListEnd;
+use crate::list_item::{ListItem, listed};
 use crate::part_fault::PartFault;
 use crate::soft_keyword::past_soft_word;
 use crate::step::{past_name, past_symbol};
@@ -47,25 +48,24 @@ fn param(alloc: Global, tokens: &[Token]) -> Result<(Param, &[Token]), PartFault
     Ok((Param { name, ty, owned }, rest))
 }
 
+impl ListItem for Param {
+    ghost use Rattle.gp_form.specs.code.FormReading.{param};
+    ghost use Rattle.gp_tree.specs.Form.{Parameter, parameter};
+
+    ghost Seen = { Parameter };
+
+    ghost seen = { parameter };
+
+    ghost reading = { param };
+
+    fn front(alloc: Global, tokens: &[Token]) -> Result<(Param, &[Token]), PartFault> {
+        param(alloc, tokens)
+    }
+}
+
 /// Parameters with commas between them, and behind them a closing parenthesis.
 pub fn params(alloc: Global, tokens: &[Token]) -> Result<(Params, &[Token]), PartFault>
     ensures { Gives (λ x. (map parameter x.0, x.1.now)) result (spec.listed spec.param (past_end until.Paren) tokens.now) }
 {
-    let mut found = Params::new(alloc);
-    let mut rest = tokens;
-    for _turn in 0..tokens.len() + 1 {
-        if let Some(after) = past_end(rest, ListEnd::Paren) {
-            return Ok((found, after));
-        }
-        let (item, next) = param(alloc, rest)?;
-        found.push(item)?;
-        if let Some(after) = past_end(next, ListEnd::Paren) {
-            return Ok((found, after));
-        }
-        let Some(after) = past_symbol(next, Symbol::Comma) else {
-            return Err(PartFault::NotSpelled);
-        };
-        rest = after;
-    }
-    Err(PartFault::NotSpelled)
+    listed(alloc, ListEnd::Paren, Params::new(alloc), tokens)
 }

@@ -6,6 +6,7 @@ ghost use Rattle.gp_form.specs.code.Reading.{place_front, past_end};
 ghost use Rattle.gp_form.specs.code.Steps.{Gives, with_front};
 
 use crate::list_end::{ListEnd, past_end};
+use crate::list_item::{ListItem, listed};
 use crate::part_fault::PartFault;
 use crate::place::place_front;
 use crate::step::past_symbol;
@@ -56,6 +57,20 @@ fn pattern_outside(alloc: Global, tokens: &[Token]) -> Result<Targets, PartFault
     Ok(Targets::Pattern(all))
 }
 
+impl ListItem for Place {
+    ghost use Rattle.gp_form.specs.code.Reading.{place_front};
+
+    ghost Seen = { Place };
+
+    ghost seen = { λ place. place };
+
+    ghost reading = { place_front };
+
+    fn front(alloc: Global, tokens: &[Token]) -> Result<(Place, &[Token]), PartFault> {
+        place_front(alloc, tokens)
+    }
+}
+
 /// Places with commas between them up to the end, behind the first one.
 fn places(
     alloc: Global,
@@ -67,22 +82,7 @@ fn places(
 {
     let mut found = Places::new(alloc);
     found.push(first)?;
-    let mut rest = tokens;
-    for _turn in 0..tokens.len() + 1 {
-        if let Some(after) = past_end(rest, end) {
-            return Ok((found, after));
-        }
-        let (item, next) = place_front(alloc, rest)?;
-        found.push(item)?;
-        if let Some(after) = past_end(next, end) {
-            return Ok((found, after));
-        }
-        let Some(after) = past_symbol(next, Symbol::Comma) else {
-            return Err(PartFault::NotSpelled);
-        };
-        rest = after;
-    }
-    Err(PartFault::NotSpelled)
+    listed(alloc, end, found, tokens)
 }
 
 /// The place that all of the tokens are.

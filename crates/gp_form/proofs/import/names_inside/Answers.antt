@@ -1,41 +1,6 @@
-use Rattle.std.proofs.Common.{◌+◌, length, refl}
-use Rattle.std.proofs.lemmas.Result.{err_from_is_err_and}
-use Rattle.gp_form.proofs.ListTurns.{listed_start, listed_close, listed_fail, listed_end, listed_stop, listed_go_on, listed_run_out}
-use Rattle.gp_form.specs.declared.list_end.ListEnd.TheVariants as until
-use Rattle.gp_form.specs.code.Reading.{past_end}
-use Rattle.gp_form.specs.code.Steps.{past_name}
+use Rattle.std.proofs.Common.{ℕ, List, map, ap}
+use Rattle.gp_form.proofs.ListTurns.{alone, as_they_are}
 use Rattle.gp_form.proofs.import.names_inside.Goals as goal
 
-pub loop-turn-init : goal.loop-turn-init
-loop-turn-init c = rw c.new-found.ensures (listed_start past_name (past_end until.Paren) c.args.tokens.now (length c.args.tokens.now + 1) refl)
-
-pub returns-in-Some : goal.returns-in-Some
-returns-in-Some c =
-    listed_close (past_name) (past_end until.Paren) (c.loop-turn.found) (length c.args.tokens.now + 1) c.loop-turn._turn c.loop-turn.rest.now _ c.loop-turn.invariant
-    c.in-Some.after.now c.loop-turn-test.true c.in-Some.ensures
-
-pub returns-in_err-item : goal.returns-in_err-item
-returns-in_err-item c =
-    let p = err_from_is_err_and c.from_residual.result c.from_residual.ensures.1 in
-    rw (p.1, p.2) (listed_fail (past_name) (past_end until.Paren) (c.loop-turn.found) (length c.args.tokens.now + 1) c.loop-turn._turn c.loop-turn.rest.now _ c.loop-turn.invariant
-    c.in_err-item.field-0.0 c.loop-turn-test.true c.in_default.ensures c.in_err-item.ensures)
-
-pub returns-in-Some-past_end : goal.returns-in-Some-past_end
-returns-in-Some-past_end c =
-    let pushed = c.in_ok-push.ensures.ok in
-    rw pushed (listed_end (past_name) (past_end until.Paren) (c.loop-turn.found) (length c.args.tokens.now + 1) c.loop-turn._turn c.loop-turn.rest.now _ c.loop-turn.invariant
-    c.loop-turn-test.true c.in_default.ensures (c.in_ok-item.item) c.in_ok-item.next.now c.in_ok-item.ensures c.in-Some-past_end.after.now c.in-Some-past_end.ensures)
-
-pub returns-in_default-past_symbol : goal.returns-in_default-past_symbol
-returns-in_default-past_symbol c =
-    listed_stop (past_name) (past_end until.Paren) (c.loop-turn.found) (length c.args.tokens.now + 1) c.loop-turn._turn c.loop-turn.rest.now _ c.loop-turn.invariant
-    c.loop-turn-test.true c.in_default.ensures (c.in_ok-item.item) c.in_ok-item.next.now c.in_ok-item.ensures c.in_default-past_end.ensures c.in_default-past_symbol.ensures
-
-pub loop-turn-preserved : goal.loop-turn-preserved
-loop-turn-preserved c =
-    let pushed = c.in_ok-push.ensures.ok in
-    rw pushed (listed_go_on (past_name) (past_end until.Paren) (c.loop-turn.found) (length c.args.tokens.now + 1) c.loop-turn._turn c.loop-turn.rest.now _ c.loop-turn.invariant
-    c.loop-turn-test.true c.in_default.ensures (c.in_ok-item.item) c.in_ok-item.next.now c.in_ok-item.ensures c.in-Some-past_symbol.after.now c.in_default-past_end.ensures c.in-Some-past_symbol.ensures)
-
 pub returns : goal.returns
-returns c = listed_run_out (past_name) (past_end until.Paren) (c.loop-turn.found) (length c.args.tokens.now + 1) c.loop-turn._turn c.loop-turn.rest.now _ c.loop-turn.invariant c.loop-turn-test.false
+returns c = as_they_are _ c.listed.result _ (alone _ c.listed.result _ _ (ap (map (λ (n : List ℕ). n)) c.new.ensures) c.listed.ensures)

@@ -1,0 +1,40 @@
+use Rattle.std.proofs.Common.{◌≡◌, ◌+◌, length, map, [], ◌∷◌, ◌++◌, refl}
+use Rattle.std.proofs.lemmas.Result.{err_from_is_err_and}
+use Rattle.std.proofs.lemmas.List.{map_push}
+use Rattle.gp_form.proofs.ListTurns.{listed_init, listed_close, listed_fail, listed_end, listed_stop, listed_go_on, listed_run_out}
+use Rattle.gp_form.specs.code.Reading.{past_end}
+use Rattle.gp_form.proofs.list_item.listed.Goals as goal
+
+pub loop-turn-init : goal.loop-turn-init
+loop-turn-init g c = listed_init g.T.ListItem.reading (past_end c.args.end) (map g.T.ListItem.seen c.args.found) c.args.tokens.now (length c.args.tokens.now + 1) refl
+
+pub returns-in-Some : goal.returns-in-Some
+returns-in-Some g c =
+    listed_close g.T.ListItem.reading (past_end c.args.end) (map g.T.ListItem.seen c.loop-turn.found) (length c.args.tokens.now + 1) c.loop-turn._turn c.loop-turn.rest.now _ c.loop-turn.invariant
+    c.in-Some.after.now c.loop-turn-test.true c.in-Some.ensures
+
+pub returns-in_err-item : goal.returns-in_err-item
+returns-in_err-item g c =
+    let p = err_from_is_err_and c.from_residual.result c.from_residual.ensures.1 in
+    rw (p.1, p.2) (listed_fail g.T.ListItem.reading (past_end c.args.end) (map g.T.ListItem.seen c.loop-turn.found) (length c.args.tokens.now + 1) c.loop-turn._turn c.loop-turn.rest.now _ c.loop-turn.invariant
+    c.in_err-item.field-0.0 c.loop-turn-test.true c.in_default.ensures c.in_err-item.ensures)
+
+pub returns-in-Some-past_end : goal.returns-in-Some-past_end
+returns-in-Some-past_end g c =
+    let pushed : map g.T.ListItem.seen c.push.new.self ≡ map g.T.ListItem.seen c.loop-turn.found ++ g.T.ListItem.seen c.in_ok-item.item ∷ [] = rw c.in_ok-push.ensures.ok (map_push _ c.loop-turn.found c.in_ok-item.item) in
+    rw pushed (listed_end g.T.ListItem.reading (past_end c.args.end) (map g.T.ListItem.seen c.loop-turn.found) (length c.args.tokens.now + 1) c.loop-turn._turn c.loop-turn.rest.now _ c.loop-turn.invariant
+    c.loop-turn-test.true c.in_default.ensures (g.T.ListItem.seen c.in_ok-item.item) c.in_ok-item.next.now c.in_ok-item.ensures c.in-Some-past_end.after.now c.in-Some-past_end.ensures)
+
+pub returns-in_default-past_symbol : goal.returns-in_default-past_symbol
+returns-in_default-past_symbol g c =
+    listed_stop g.T.ListItem.reading (past_end c.args.end) (map g.T.ListItem.seen c.loop-turn.found) (length c.args.tokens.now + 1) c.loop-turn._turn c.loop-turn.rest.now _ c.loop-turn.invariant
+    c.loop-turn-test.true c.in_default.ensures (g.T.ListItem.seen c.in_ok-item.item) c.in_ok-item.next.now c.in_ok-item.ensures c.in_default-past_end.ensures c.in_default-past_symbol.ensures
+
+pub loop-turn-preserved : goal.loop-turn-preserved
+loop-turn-preserved g c =
+    let pushed : map g.T.ListItem.seen c.push.new.self ≡ map g.T.ListItem.seen c.loop-turn.found ++ g.T.ListItem.seen c.in_ok-item.item ∷ [] = rw c.in_ok-push.ensures.ok (map_push _ c.loop-turn.found c.in_ok-item.item) in
+    rw pushed (listed_go_on g.T.ListItem.reading (past_end c.args.end) (map g.T.ListItem.seen c.loop-turn.found) (length c.args.tokens.now + 1) c.loop-turn._turn c.loop-turn.rest.now _ c.loop-turn.invariant
+    c.loop-turn-test.true c.in_default.ensures (g.T.ListItem.seen c.in_ok-item.item) c.in_ok-item.next.now c.in_ok-item.ensures c.in-Some-past_symbol.after.now c.in_default-past_end.ensures c.in-Some-past_symbol.ensures)
+
+pub returns : goal.returns
+returns g c = listed_run_out g.T.ListItem.reading (past_end c.args.end) (map g.T.ListItem.seen c.loop-turn.found) (length c.args.tokens.now + 1) c.loop-turn._turn c.loop-turn.rest.now _ c.loop-turn.invariant c.loop-turn-test.false

@@ -1,6 +1,6 @@
 #!/usr/bin/env bash
 # Times how source texts are checked: the proved program `gp_bench` reads a text and checks its lines, its names and its
-# types. Wants the program built (`rt run` in crates/gp_bench builds it), bash and python3.
+# types. Wants the program built (`rt run` in crates/gp_bench builds it), bash, python3 and GNU time.
 #
 # For each text it prints the best wall time of three in seconds, the microseconds a byte, and the peak memory in MiB. Each
 # text stands there at two sizes, and the last column is how much more memory the larger one takes: the script fails where

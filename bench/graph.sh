@@ -1,7 +1,7 @@
 #!/usr/bin/env bash
 # Times how graphs grow: the proved program `hg_bench` builds the graph of a function whose one qubit passes through
 # as many gates as it is told, node by node and link by link, and ends. Wants the program built (`rt run` in
-# crates/hg_bench builds it), bash and python3.
+# crates/hg_bench builds it), bash, python3 and GNU time.
 #
 # For each size it prints the best wall time of three in seconds, the microseconds a gate, and the peak memory in MiB.
 # Where growing takes the same time a gate in a large graph as in a small one, the fourth column stays about the same.

@@ -1,6 +1,6 @@
 #!/usr/bin/env bash
 # Times `run` on graphs of four shapes, with the proved program, beside python3's reading of the same text. Wants the program
-# built (./guppy does that), bash and python3.
+# built (./guppy does that), bash, python3 and GNU time.
 #
 # The shapes are a chain of gates; parts inside one another; a loop with a gate in each round, a measurement in each tenth and
 # two branches; and a region whose children are all ready at once, run under picks that take the last of them. Each stands there

@@ -1,6 +1,6 @@
 #!/usr/bin/env bash
 # Times `compile` on thin texts and `run` on thin graphs, with the proved program, beside python3's reading of
-# the same graph in the same run. Wants the program built (./guppy does that), bash and python3.
+# the same graph in the same run. Wants the program built (./guppy does that), bash, python3 and GNU time.
 #
 # For each size it prints the wall time in seconds, the peak memory in MiB, and the ratio of the program's time
 # to that of python3 -c 'import json,sys; json.load(sys.stdin)' on the same graph: for `compile` the graph that

@@ -167,15 +167,12 @@ pub(crate) fn two_blocks(alloc: Global) -> Result<Graph, BuildFault> {
     finished(with_blocks(alloc, region, cfg), wires)
 }
 
-// A function of the graph that turns a qubit.
-fn turning(alloc: Global, mut graph: Graph) -> Result<(Graph, NodeId), BuildFault> {
-    let (ins, outs) = (qubit_row(alloc)?, qubit_row(alloc)?);
-    let function = add_function(alloc, &mut graph, "f", ins, outs)?;
+// Fills a function so that it turns a qubit.
+fn turning(alloc: Global, graph: Graph, function: NodeId) -> Result<Graph, BuildFault> {
     let (ins, outs) = (qubit_row(alloc)?, qubit_row(alloc)?);
     let (mut region, wires) = Region::open(alloc, graph, function, ins, outs)?;
     let wires = region.op(OpKind::H, wires)?;
-    let graph = region.finish(wires)?;
-    Ok((graph, function))
+    region.finish(wires)
 }
 
 // A function that was loaded, and a qubit.
@@ -195,9 +192,11 @@ fn with_function(
 
 /// A function is loaded as a value, and called with a qubit.
 pub(crate) fn function_value(alloc: Global) -> Result<Graph, BuildFault> {
-    let graph = Graph::new(alloc)?;
-    let (mut graph, function) = turning(alloc, graph)?;
+    let mut graph = Graph::new(alloc)?;
+    let (ins, outs) = (qubit_row(alloc)?, qubit_row(alloc)?);
+    let function = add_function(alloc, &mut graph, "f", ins, outs)?;
     let main = add_function(alloc, &mut graph, "main", Row::new(alloc), Row::new(alloc))?;
+    let graph = turning(alloc, graph, function)?;
     let (ins, outs) = (qubit_row(alloc)?, qubit_row(alloc)?);
     let (mut region, wires) = Region::open(alloc, graph, main, Row::new(alloc), Row::new(alloc))?;
     let qubits = region.op(OpKind::Alloc, wires)?;

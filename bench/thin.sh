@@ -1,6 +1,6 @@
 #!/usr/bin/env bash
 # Times `compile` on thin texts and `run` on thin graphs, with the proved program, beside python3's reading of
-# the same graph in the same run. Wants the program built (./guppy does that), bash and python3.
+# the same graph in the same run. Wants the program built (./guppy does that), bash, python3 and GNU time.
 #
 # For each size it prints the wall time in seconds, the peak memory in MiB, and the ratio of the program's time
 # to that of python3 -c 'import json,sys; json.load(sys.stdin)' on the same graph: for `compile` the graph that
@@ -37,7 +37,7 @@ def thin_graph(gates):
     edges = []
     for k in range(5, len(nodes)):
         edges += [[[k - 1, 0], [k, 0]], [[k - 1, None], [k, None]]]
-    graph = {"edges": edges, "nodes": nodes, "version": "profile-1"}
+    graph = {"edges": edges, "nodes": nodes, "version": "profile-2"}
     return json.dumps(graph, separators=(",", ":"))
 
 

@@ -163,24 +163,23 @@ clean_step = record {
 stays_clean : (w v : World) → IsCleanBetween w v → IsCleanWorld w → IsCleanWorld v
 stays_clean w v b c = ap (λ es. flags_after es []) b.appended ∙ (flags_after-append w.events b.events [] w.flags c ∙ b.clean)
 
-clean_after : {A : Type 0} (m : Run World A) → Relates IsCleanBetween clean_step m → (w : World) → IsCleanWorld w → IsCleanWorld (world_after (m w))
-clean_after m h w c = stays_clean w (world_after (m w)) (h.relates w) c
-
-turn_clean : (w : World) (n : ℕ) → IsCleanWorld w → IsCleanWorld (world_after (turn_of n w))
-turn_clean w zero c = c
-turn_clean w (suc n) c = c
+turn_clean : (w : World) (n : ℕ) → IsCleanBetween w (world_after (turn_of n w))
+turn_clean w zero = clean_same w
+turn_clean w (suc n) = record { events = []; appended = sym (append-nil w.events); clean = refl }
 
 pub worlds_stay_clean_lem : WorldsStayClean
 worlds_stay_clean_lem = record {
   started = λ turns outcomes. refl;
-  allocated = clean_after allocate (allocate_relates IsCleanBetween clean_step);
-  freed = λ w q. clean_after (free q) (free_relates IsCleanBetween clean_step q) w;
-  gated = λ w gate q. clean_after (apply_gate gate q) (does_on IsCleanBetween clean_step q (event.Gate1 gate q) (λ flags. refl)) w;
-  gated_two = λ w gate p q. clean_after (apply_gate_on_two gate p q) (two_relate IsCleanBetween clean_step gate p q) w;
-  gated_three = λ w gate p q r. clean_after (apply_gate_on_three gate p q r) (three_relate IsCleanBetween clean_step gate p q r) w;
-  rotated = λ w gate q angle. clean_after (rotate gate q angle) (does_on IsCleanBetween clean_step q (event.Rotation gate q angle) (λ flags. refl)) w;
-  reset_to_first = λ w q. clean_after (reset q) (does_on IsCleanBetween clean_step q (event.Reset q) (λ flags. refl)) w;
-  measured = λ w q. clean_after (measure q) (measure_relates IsCleanBetween clean_step q) w;
-  measured_free = λ w q. clean_after (measure_free q) (measure_free_relates IsCleanBetween clean_step q) w;
+  kept = stays_clean;
+  joined = clean_chain;
+  allocated = (allocate_relates IsCleanBetween clean_step).relates;
+  freed = λ w q. (free_relates IsCleanBetween clean_step q).relates w;
+  gated = λ w gate q. (does_on IsCleanBetween clean_step q (event.Gate1 gate q) (λ flags. refl)).relates w;
+  gated_two = λ w gate p q. (two_relate IsCleanBetween clean_step gate p q).relates w;
+  gated_three = λ w gate p q r. (three_relate IsCleanBetween clean_step gate p q r).relates w;
+  rotated = λ w gate q angle. (does_on IsCleanBetween clean_step q (event.Rotation gate q angle) (λ flags. refl)).relates w;
+  reset_to_first = λ w q. (does_on IsCleanBetween clean_step q (event.Reset q) (λ flags. refl)).relates w;
+  measured = λ w q. (measure_relates IsCleanBetween clean_step q).relates w;
+  measured_free = λ w q. (measure_free_relates IsCleanBetween clean_step q).relates w;
   turned = λ w. turn_clean w w.turns;
 }

@@ -49,16 +49,19 @@ abbrev pub world_after : {A : Type 0} → Out World A → World
 world_after (Returned a w) = w
 world_after (Stopped e w) = w
 
--- a program starts in a clean world, and every word that changes a world keeps it clean, also where it stops
+-- Every word that changes a world does so by events that are clean from the world's flags and leave the flags after it, also
+-- where it stops, and whatever happened before. Such steps join; a program starts in a clean world, and they keep it clean.
 pub record WorldsStayClean : Type 0 where
   pub started : (turns : ℕ) (outcomes : List Bool) → IsCleanWorld (start turns outcomes)
-  pub allocated : (w : World) → IsCleanWorld w → IsCleanWorld (world_after (allocate w))
-  pub freed : (w : World) (q : ℕ) → IsCleanWorld w → IsCleanWorld (world_after (free q w))
-  pub gated : (w : World) (gate : GateName) (q : ℕ) → IsCleanWorld w → IsCleanWorld (world_after (apply_gate gate q w))
-  pub gated_two : (w : World) (gate : GateName) (p q : ℕ) → IsCleanWorld w → IsCleanWorld (world_after (apply_gate_on_two gate p q w))
-  pub gated_three : (w : World) (gate : GateName) (p q r : ℕ) → IsCleanWorld w → IsCleanWorld (world_after (apply_gate_on_three gate p q r w))
-  pub rotated : (w : World) (gate : GateName) (q : ℕ) (angle : ℤ) → IsCleanWorld w → IsCleanWorld (world_after (rotate gate q angle w))
-  pub reset_to_first : (w : World) (q : ℕ) → IsCleanWorld w → IsCleanWorld (world_after (reset q w))
-  pub measured : (w : World) (q : ℕ) → IsCleanWorld w → IsCleanWorld (world_after (measure q w))
-  pub measured_free : (w : World) (q : ℕ) → IsCleanWorld w → IsCleanWorld (world_after (measure_free q w))
-  pub turned : (w : World) → IsCleanWorld w → IsCleanWorld (world_after (take_turn w))
+  pub kept : (before after : World) → IsCleanBetween before after → IsCleanWorld before → IsCleanWorld after
+  pub joined : (u v w : World) → IsCleanBetween u v → IsCleanBetween v w → IsCleanBetween u w
+  pub allocated : (w : World) → IsCleanBetween w (world_after (allocate w))
+  pub freed : (w : World) (q : ℕ) → IsCleanBetween w (world_after (free q w))
+  pub gated : (w : World) (gate : GateName) (q : ℕ) → IsCleanBetween w (world_after (apply_gate gate q w))
+  pub gated_two : (w : World) (gate : GateName) (p q : ℕ) → IsCleanBetween w (world_after (apply_gate_on_two gate p q w))
+  pub gated_three : (w : World) (gate : GateName) (p q r : ℕ) → IsCleanBetween w (world_after (apply_gate_on_three gate p q r w))
+  pub rotated : (w : World) (gate : GateName) (q : ℕ) (angle : ℤ) → IsCleanBetween w (world_after (rotate gate q angle w))
+  pub reset_to_first : (w : World) (q : ℕ) → IsCleanBetween w (world_after (reset q w))
+  pub measured : (w : World) (q : ℕ) → IsCleanBetween w (world_after (measure q w))
+  pub measured_free : (w : World) (q : ℕ) → IsCleanBetween w (world_after (measure_free q w))
+  pub turned : (w : World) → IsCleanBetween w (world_after (take_turn w))

@@ -5,7 +5,9 @@ pub mod Membership
 pub mod Number
 pub mod Outside
 pub mod Run
+pub mod Stacks
 pub mod StoredBytes
 pub mod StoredFiles
 pub mod Tag
+pub mod Truth
 pub mod World

@@ -1,4 +1,5 @@
 -- Runs: what they make of a state, and how they end.
+use Rattle.std.specs.Prelude.{Option, Some, None}
 
 -- how a run ends that doesn't return
 pub data Stop : Type 0 where
@@ -22,6 +23,11 @@ ret a s = Returned a s
 
 abbrev pub stop : {S A : Type 0} → Stop → Run S A
 stop e s = Stopped e s
+
+-- what is there, or a run that is stuck
+abbrev pub or_stuck : {S A : Type 0} → Option A → Run S A
+or_stuck None = stop Stuck
+or_stuck (Some a) = ret a
 
 -- goes on with what was returned; a run that stopped stays as it is
 abbrev pub go_on : {S A B : Type 0} → Out S A → (A → Run S B) → Out S B

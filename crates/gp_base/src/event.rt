@@ -24,7 +24,7 @@ pub enum GateName {
 }
 
 /// What a run does outside itself. Qubits are numbered from 0 in the order in which they are allocated.
-#[derive(Debug, Drop)]
+#[derive(Drop)]
 pub enum Event {
     /// The qubit begins to live.
     Alloc(u64),

@@ -7,7 +7,7 @@ use std::alloc::{AllocError, Global};
 use std::marker::Model;
 
 // The calls so far, the numbers of those that fail, and the count of faults.
-#[derive(Debug, Drop)]
+#[derive(Drop)]
 pub struct FaultPlan {
     calls: u64,
     failing: Vec<u64>,

@@ -9,8 +9,9 @@ pub fn live_below_next()
     ensures { LiveBelowNext }
 {}
 
-/// The events of a world are clean and leave its flags: so a program starts, and every word that changes a world (what
-/// allocates, frees, measures, resets, applies a gate or takes a turn) keeps it so, also where it stops.
+/// Every word that changes a world (what allocates, frees, measures, resets, applies a gate or takes a turn) does so by
+/// events that are clean from the flags before it and leave the flags after it, from whatever world, also where it stops.
+/// Such steps join, and they keep a world clean whose events are clean from the start, as a program's first world is.
 pub fn worlds_stay_clean()
     ensures { WorldsStayClean }
 {}

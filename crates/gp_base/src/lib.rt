@@ -7,21 +7,22 @@ pub mod event_text;
 mod fault_plan;
 pub mod files;
 pub mod laws;
+mod limit;
 pub mod memory_files;
 pub mod memory_sink;
 pub mod name;
 pub mod sequence;
 pub mod sink;
+pub mod stack;
 pub mod tag;
 
 pub use event::{End, Event, Events, GateName};
 pub use files::{Failed, Files};
+pub use limit::SOURCE_LIMIT;
 pub use memory_files::MemoryFiles;
 pub use memory_sink::MemorySink;
 pub use name::{LineNo, Name, Names};
 pub use sequence::{Sequence, TextBytes};
 pub use sink::{Sink, write_all};
+pub use stack::Stack;
 pub use tag::Tag;
-
-#[cfg(test)]
-mod tests;

@@ -11,7 +11,7 @@ use std::alloc::{AllocError, Global};
 use std::marker::Model;
 
 // A name and what it holds.
-#[derive(Debug, Drop)]
+#[derive(Drop)]
 struct StoredFile {
     name: String,
     bytes: Vec<u8>,
@@ -27,14 +27,14 @@ impl Model for StoredFile {
 }
 
 // The place of a file among the stored ones, and how many of its bytes were read.
-#[derive(Clone, Copy, Debug)]
+#[derive(Clone, Copy)]
 struct Cursor {
     place: usize,
     offset: usize,
 }
 
 /// Named contents in memory, which tell what they hold. Calls of `open` and `read` fail where `fail_at` lets them.
-#[derive(Debug, Drop)]
+#[derive(Drop)]
 pub struct MemoryFiles {
     alloc: Global,
     // A name holds the last file that has it, so the place of an open file stays.

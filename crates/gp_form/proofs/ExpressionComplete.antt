@@ -12,8 +12,8 @@ use Rattle.gp_form.specs.declared.list_end.ListEnd.{ListEnd}
 use Rattle.gp_form.specs.declared.list_end.ListEnd.TheVariants as end
 use Rattle.gp_form.specs.Grammar as g
 use Rattle.gp_form.specs.Grammar.{join_at, joined, place_of, SpellsFields, SpellsPlace, Spells, SpellsItems, SpellsTuple, SpellsExpressions}
-use Rattle.gp_form.specs.Reading.{fields_from, path_from, place_front, chain_from, chain, past_end, items_from, items, expressions, named, atom, factor, comparison, inversion, whole, level, tighter, looseness, read, expression_front, all_expressions}
-use Rattle.gp_form.specs.Steps.{◌>>=◌, past_symbol, past_word, past_name}
+use Rattle.gp_form.specs.code.Reading.{fields_from, path_from, place_front, chain_from, chain, past_end, items_from, items, expressions, named, atom, factor, comparison, inversion, whole, level, tighter, looseness, read, expression_front, all_expressions}
+use Rattle.gp_form.specs.code.Steps.{◌>>=◌, past_symbol, past_word, past_name}
 use Rattle.gp_form.proofs.Follow.{first_binds, joins_bind, no_join, some_join, no_bracket, no_dot, no_if, comma_goes_on, Begins, begins_looser, begins_longer, some_token, not_symbol, not_word, not_end}
 use Rattle.gp_form.proofs.StepLemmas.{some, some_is}
 use Rattle.gp_tree.specs.declared.place.Place.{Place}

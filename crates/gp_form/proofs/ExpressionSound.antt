@@ -13,8 +13,8 @@ use Rattle.gp_form.specs.declared.list_end.ListEnd.{ListEnd}
 use Rattle.gp_form.specs.declared.list_end.ListEnd.TheVariants as end
 use Rattle.gp_form.specs.Grammar as g
 use Rattle.gp_form.specs.Grammar.{join_at, joined, place_of, SpellsFields, SpellsPlace, Spells, SpellsItems, SpellsTuple, SpellsExpressions}
-use Rattle.gp_form.specs.Reading.{fields_from, path_from, place_front, with_join, past_join, chain_from, chain, at_end, past_end, truth_of, items_from, items, expressions, named, atom, factor, term, sum, comparison, inversion, conjunction, disjunction, whole, level, read, expression_front, all_expressions}
-use Rattle.gp_form.specs.Steps.{Read, ◌>>=◌, past_symbol}
+use Rattle.gp_form.specs.code.Reading.{fields_from, path_from, place_front, with_join, past_join, chain_from, chain, at_end, past_end, truth_of, items_from, items, expressions, named, atom, factor, term, sum, comparison, inversion, conjunction, disjunction, whole, level, read, expression_front, all_expressions}
+use Rattle.gp_form.specs.code.Steps.{Read, ◌>>=◌, past_symbol}
 use Rattle.gp_form.proofs.StepLemmas.{bind_some, on, off, found_some, some, some_is, none_some, symbol_is, word_is, name_is, Front, IsSound, made, wider, behind, between, joined_parts}
 use Rattle.gp_tree.specs.declared.place.Place.{Place}
 use Rattle.gp_tree.specs.Expression.{Expression, number, boolean, text, place, minus, negation, choice, tuple, call, with_expression, expressions_of}

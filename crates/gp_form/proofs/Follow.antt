@@ -15,8 +15,8 @@ use Rattle.gp_form.specs.declared.level.Level.TheVariants.{Disjunction, Conjunct
 use Rattle.gp_form.specs.declared.list_end.ListEnd.{ListEnd}
 use Rattle.gp_form.specs.declared.list_end.ListEnd.TheVariants as end
 use Rattle.gp_form.specs.Grammar.{join_at}
-use Rattle.gp_form.specs.Reading.{with_join, past_join, at_end, past_end, looseness}
-use Rattle.gp_form.specs.Steps.{if_same, past_symbol, past_word}
+use Rattle.gp_form.specs.code.Reading.{with_join, past_join, at_end, past_end, looseness}
+use Rattle.gp_form.specs.code.Steps.{if_same, past_symbol, past_word}
 
 -- How tightly a token goes on with what stands before it, 0 for a token that never does. It goes on with
 -- an expression of a level where this and the level's looseness are 9 or more.

@@ -24,9 +24,9 @@ use Rattle.gp_form.specs.declared.list_end.ListEnd.{ListEnd}
 use Rattle.gp_form.specs.declared.list_end.ListEnd.TheVariants as until
 use Rattle.gp_form.specs.Forms as g
 use Rattle.gp_form.specs.Forms.{Listed, SpellsType, SpellsTypes, parameter_of, SpellsParam, SpellsPlaces, SpellsTargets, augmenting, SpellsSimple, SpellsBody, SpellsResult, IsMaybeComma, SpellsName, SpellsNames, SpellsImported, dotted, SpellsForm, HasOneForm}
-use Rattle.gp_form.specs.Steps.{◌>>=◌, if_same, past_symbol, past_word, past_name}
-use Rattle.gp_form.specs.Reading.{fields_from, path_from, past_join, chain_from, chain, past_end, expressions, named, atom, factor, comparison, inversion, whole, read, place_front, expression_front, all_expressions}
-use Rattle.gp_form.specs.FormReading.{past_soft_word, nothing, past_string, listed, some_tuple, past_tuple, type_with, type_at, a_type, owned_mark, param, pattern_inside, pattern_outside, targets, assigning_symbol, assigning, split, assigned, declaration, past_declared, past_request, docstring, module_call, evaluated, unled, returned, statement, only_simple, simple, body, result_type, def_header, class_header, tested, else_header, maybe_comma, past_range, for_header, decorator, names_from, imported, import_names, first_word, led, line}
+use Rattle.gp_form.specs.code.Steps.{◌>>=◌, if_same, past_symbol, past_word, past_name}
+use Rattle.gp_form.specs.code.Reading.{fields_from, path_from, past_join, chain_from, chain, past_end, expressions, named, atom, factor, comparison, inversion, whole, read, place_front, expression_front, all_expressions}
+use Rattle.gp_form.specs.code.FormReading.{past_soft_word, nothing, past_string, listed, some_tuple, past_tuple, type_with, type_at, a_type, owned_mark, param, pattern_inside, pattern_outside, targets, assigning_symbol, assigning, split, assigned, declaration, past_declared, past_request, docstring, module_call, evaluated, unled, returned, statement, only_simple, simple, body, result_type, def_header, class_header, tested, else_header, maybe_comma, past_range, for_header, decorator, names_from, imported, import_names, first_word, led, line}
 use Rattle.gp_form.proofs.StepLemmas.{some, some_is}
 use Rattle.gp_form.proofs.FormWords.{this_text}
 use Rattle.gp_form.proofs.ListedItems.{ItemReads, ListReads, nothing_reads, last_reads, going_on_reads, listed_reads, all_reads}

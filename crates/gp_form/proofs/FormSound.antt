@@ -21,9 +21,9 @@ use Rattle.gp_form.specs.Grammar.{Spells, SpellsPlace}
 use Rattle.gp_form.specs.declared.list_end.ListEnd.TheVariants as until
 use Rattle.gp_form.specs.Forms as g
 use Rattle.gp_form.specs.Forms.{Listed, SpellsType, SpellsTypes, parameter_of, SpellsParam, SpellsPlaces, SpellsTargets, augmenting, SpellsSimple, SpellsBody, SpellsResult, IsMaybeComma, SpellsName, SpellsNames, SpellsImported, dotted, SpellsForm}
-use Rattle.gp_form.specs.Steps.{Read, ◌>>=◌, past_symbol, past_word, past_name}
-use Rattle.gp_form.specs.Reading.{past_end, place_front, expression_front}
-use Rattle.gp_form.specs.FormReading.{nothing, past_string, all_of, some_tuple, past_tuple, type_with, type_at, a_type, owned_mark, param, pattern_inside, pattern_outside, targets, assigning_symbol, assigning, split, assigned, declaration, past_declared, past_request, docstring, module_call, evaluated, unled, alone, returned, statement, only_simple, simple, body, result_type, def_header, class_header, test_and_body, tested, else_header, maybe_comma, past_range, for_header, decorator, some_names, names_from, imported, import_names, first_word, led, line}
+use Rattle.gp_form.specs.code.Steps.{Read, ◌>>=◌, past_symbol, past_word, past_name}
+use Rattle.gp_form.specs.code.Reading.{past_end, place_front, expression_front}
+use Rattle.gp_form.specs.code.FormReading.{nothing, past_string, all_of, some_tuple, past_tuple, type_with, type_at, a_type, owned_mark, param, pattern_inside, pattern_outside, targets, assigning_symbol, assigning, split, assigned, declaration, past_declared, past_request, docstring, module_call, evaluated, unled, alone, returned, statement, only_simple, simple, body, result_type, def_header, class_header, test_and_body, tested, else_header, maybe_comma, past_range, for_header, decorator, some_names, names_from, imported, import_names, first_word, led, line}
 use Rattle.gp_form.proofs.StepLemmas.{bind_some, found_some, on, off, some, some_is, symbol_is, word_is, name_is, Front, IsSound, made, joined_parts}
 use Rattle.gp_form.proofs.FormWords.{text_is, paren_is, nothing_is, string_is}
 use Rattle.gp_form.proofs.ListedItems.{listed_sound, to_the_end}

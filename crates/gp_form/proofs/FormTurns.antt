@@ -11,8 +11,8 @@ use Rattle.gp_form.specs.declared.assigning.Assigning.{Assigning}
 use Rattle.gp_form.specs.declared.part_fault.PartFault.{PartFault}
 use Rattle.gp_form.specs.declared.part_fault.PartFault.TheVariants as fault
 use Rattle.gp_form.specs.LineSize.{is_opening, is_closing, OpensTooMany}
-use Rattle.gp_form.specs.FormReading.{nothing, assigning, split, names_from}
-use Rattle.gp_form.specs.Steps.{◌>>=◌, Fails, Finds, past_symbol, past_name}
+use Rattle.gp_form.specs.code.FormReading.{nothing, assigning, split, names_from}
+use Rattle.gp_form.specs.code.Steps.{◌>>=◌, Fails, Finds, past_symbol, past_name}
 use Rattle.gp_form.proofs.Turns.{one_more, no_more}
 
 -- ---- the first token that assigns

@@ -4,7 +4,7 @@ use Rattle.gp_lex.specs.declared.line.LogicalLine.{LogicalLine}
 use Rattle.gp_tree.specs.declared.line_form.LineForm.{LineForm}
 use Rattle.gp_tree.specs.Form.{form}
 use Rattle.gp_form.specs.declared.form_fault.FormFault.TheVariants as fault
-use Rattle.gp_form.specs.FormReading as spec
+use Rattle.gp_form.specs.code.FormReading as spec
 use Rattle.gp_form.specs.LineForms.{IsFormOf}
 use Rattle.gp_form.specs.LineSize.{IsTooBig}
 use Rattle.gp_form.proofs.StepLemmas.{some_is, none_some}

@@ -5,9 +5,9 @@ use Rattle.gp_lex.specs.declared.token.Token.{Token}
 use Rattle.gp_lex.specs.declared.token.Token.TheVariants as t
 use Rattle.gp_lex.specs.declared.token.Symbol.TheVariants as s
 use Rattle.gp_form.specs.declared.list_end.ListEnd.TheVariants as until
-use Rattle.gp_form.specs.Steps.{if_same}
-use Rattle.gp_form.specs.Reading.{past_end}
-use Rattle.gp_form.specs.FormReading.{past_soft_word, nothing, past_string}
+use Rattle.gp_form.specs.code.Steps.{if_same}
+use Rattle.gp_form.specs.code.Reading.{past_end}
+use Rattle.gp_form.specs.code.FormReading.{past_soft_word, nothing, past_string}
 use Rattle.gp_form.proofs.StepLemmas.{some_is, symbol_is}
 
 if_same_is : (b : Bool) (ts rest : List Token) → if_same b ts ≡ Some rest → (b ≡ true) × (ts ≡ rest)

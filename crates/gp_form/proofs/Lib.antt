@@ -11,3 +11,4 @@ pub mod Follow
 pub mod PlainTokens
 pub mod StepLemmas
 pub mod Turns
+pub mod FormLaws

@@ -5,8 +5,8 @@ use Rattle.gp_lex.specs.declared.token.Symbol.TheVariants as s
 use Rattle.gp_lex.specs.declared.token.Token.{Token}
 use Rattle.gp_form.specs.declared.part_fault.PartFault.{PartFault}
 use Rattle.gp_form.specs.declared.part_fault.PartFault.TheVariants as fault
-use Rattle.gp_form.specs.FormReading.{listed_from, listed}
-use Rattle.gp_form.specs.Steps.{◌>>=◌, Fails, Read, past_symbol, with_front}
+use Rattle.gp_form.specs.code.FormReading.{listed_from, listed}
+use Rattle.gp_form.specs.code.Steps.{◌>>=◌, Fails, Read, past_symbol, with_front}
 use Rattle.gp_form.proofs.Turns.{one_more, no_more}
 
 regroup : {X : Type 0} (front : List X) (x : X) (read : Option (List X × List Token)) → with_front front (read >>= λ y. Some (x ∷ y.0, y.1)) ≡ with_front (front ++ x ∷ []) read

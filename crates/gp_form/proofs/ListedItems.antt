@@ -6,8 +6,8 @@ use Rattle.gp_lex.specs.declared.token.Token.TheVariants as t
 use Rattle.gp_lex.specs.declared.token.Symbol.TheVariants as s
 use Rattle.gp_form.specs.Forms as g
 use Rattle.gp_form.specs.Forms.{Listed}
-use Rattle.gp_form.specs.Steps.{Read, past_symbol}
-use Rattle.gp_form.specs.FormReading.{nothing, listed_from, listed}
+use Rattle.gp_form.specs.code.Steps.{Read, past_symbol}
+use Rattle.gp_form.specs.code.FormReading.{nothing, listed_from, listed}
 use Rattle.gp_form.proofs.StepLemmas.{bind_some, found_some, on, off, symbol_is, IsSound}
 use Rattle.gp_form.proofs.FormWords.{nothing_is}
 

@@ -7,7 +7,7 @@ use Rattle.gp_lex.specs.declared.token.Keyword.{Keyword}
 use Rattle.gp_lex.specs.declared.token.Symbol.{Symbol}
 use Rattle.gp_lex.specs.declared.token.Token.{Token}
 use Rattle.gp_lex.specs.declared.token.Token.TheVariants as t
-use Rattle.gp_form.specs.Steps.{Read, ◌>>=◌, found, if_same, past_symbol, past_word, past_name}
+use Rattle.gp_form.specs.code.Steps.{Read, ◌>>=◌, found, if_same, past_symbol, past_word, past_name}
 
 pub bind_some : {A B : Type 0} (r : Option A) (f : A → Option B) (y : B) → (r >>= f) ≡ Some y → (x : A) × (r ≡ Some x) × (f x ≡ Some y)
 bind_some (Some x) f y e = (x, refl, e)

@@ -8,8 +8,8 @@ use Rattle.gp_form.specs.declared.level.Level.TheVariants.{Whole}
 use Rattle.gp_form.specs.declared.list_end.ListEnd.{ListEnd}
 use Rattle.gp_form.specs.declared.part_fault.PartFault.{PartFault}
 use Rattle.gp_form.specs.declared.part_fault.PartFault.TheVariants as fault
-use Rattle.gp_form.specs.Reading.{items_from, past_end}
-use Rattle.gp_form.specs.Steps.{◌>>=◌, Fails, Read, past_symbol, with_front}
+use Rattle.gp_form.specs.code.Reading.{items_from, past_end}
+use Rattle.gp_form.specs.code.Steps.{◌>>=◌, Fails, Read, past_symbol, with_front}
 use Rattle.gp_tree.specs.Expression.{Expression}
 
 pub one_more : {X : Type 0} {x : X} (f : ℕ → X) (n at : ℕ) → at < n → x ≡ f (n - at) → x ≡ f (suc (n - (at + 1)))

@@ -1,14 +1,14 @@
 //! The tokens that assign.
 
 ghost use Rattle.std.specs.Prelude.{◌≡◌};
-ghost use Rattle.gp_form.specs.FormReading as spec;
-ghost use Rattle.gp_form.specs.Steps.{Finds};
+ghost use Rattle.gp_form.specs.code.FormReading as spec;
+ghost use Rattle.gp_form.specs.code.Steps.{Finds};
 
 use gp_lex::{Symbol, Token};
 use gp_tree::BinOp;
 
 /// How a token assigns.
-#[derive(Clone, Copy, Debug, PartialEq, Eq)]
+#[derive(Clone, Copy)]
 pub enum Assigning {
     /// `=`: the value alone.
     Plain,

@@ -5,8 +5,8 @@
 //! tokens is always enough.
 
 ghost use Rattle.std.specs.Prelude.{◌≡◌, map};
-ghost use Rattle.gp_form.specs.Reading as spec;
-ghost use Rattle.gp_form.specs.Steps.{Gives, with_front};
+ghost use Rattle.gp_form.specs.code.Reading as spec;
+ghost use Rattle.gp_form.specs.code.Steps.{Gives, with_front};
 ghost use Rattle.gp_tree.specs.Expression.{expression};
 
 use crate::level::{Level, joined, past_join, tighter};
@@ -16,11 +16,11 @@ use crate::place::path_from;
 use crate::step::{past_symbol, past_word};
 use gp_base::Name;
 use gp_lex::{Keyword, Symbol, Token};
-use gp_tree::{Expr, Exprs, copy_name, copy_text};
+use gp_tree::{Expr, Exprs, copy_text};
 use std::alloc::Global;
 
 /// The expression at the front, and the tokens behind it.
-#[tactic(auto, unfolding(crate::specs::Reading::expression_front))]
+#[tactic(auto, unfolding(crate::specs::code::Reading::expression_front))]
 pub fn expression_front(alloc: Global, tokens: &[Token]) -> Result<(Expr, &[Token]), PartFault>
     ensures { Gives (λ x. (expression x.0, x.1.now)) result (spec.expression_front tokens.now) }
 {
@@ -28,7 +28,7 @@ pub fn expression_front(alloc: Global, tokens: &[Token]) -> Result<(Expr, &[Toke
 }
 
 /// The expression, or tuple without its parentheses, that all of the tokens are.
-#[tactic(auto, unfolding(crate::specs::Reading::all_expressions))]
+#[tactic(auto, unfolding(crate::specs::code::Reading::all_expressions))]
 pub fn all_expressions(alloc: Global, tokens: &[Token]) -> Result<Expr, PartFault>
     ensures { Gives expression result (spec.all_expressions tokens.now) }
 {
@@ -76,7 +76,7 @@ fn deeper(
 
 /// A value, which a test and another value may follow.
 #[cycle(parser)]
-#[tactic(auto, unfolding(crate::specs::Reading::whole))]
+#[tactic(auto, unfolding(crate::specs::code::Reading::whole))]
 fn whole(alloc: Global, depth: usize, tokens: &[Token]) -> Result<(Expr, &[Token]), PartFault>
     ensures { Gives (λ x. (expression x.0, x.1.now)) result (spec.whole (spec.read depth) tokens.now) }
 {
@@ -116,7 +116,7 @@ fn chain(
 
 /// `not` before an inversion, or a comparison.
 #[cycle(parser)]
-#[tactic(auto, unfolding(crate::specs::Reading::inversion))]
+#[tactic(auto, unfolding(crate::specs::code::Reading::inversion))]
 fn inversion(alloc: Global, depth: usize, tokens: &[Token]) -> Result<(Expr, &[Token]), PartFault>
     ensures { Gives (λ x. (expression x.0, x.1.now)) result (spec.inversion (spec.read depth) tokens.now) }
 {
@@ -129,7 +129,7 @@ fn inversion(alloc: Global, depth: usize, tokens: &[Token]) -> Result<(Expr, &[T
 
 /// A sum, or two that are compared.
 #[cycle(parser)]
-#[tactic(auto, unfolding(crate::specs::Reading::comparison))]
+#[tactic(auto, unfolding(crate::specs::code::Reading::comparison))]
 fn comparison(alloc: Global, depth: usize, tokens: &[Token]) -> Result<(Expr, &[Token]), PartFault>
     ensures { Gives (λ x. (expression x.0, x.1.now)) result (spec.comparison (spec.read depth) tokens.now) }
 {
@@ -143,7 +143,7 @@ fn comparison(alloc: Global, depth: usize, tokens: &[Token]) -> Result<(Expr, &[
 
 /// A minus sign before a factor, or an atom.
 #[cycle(parser)]
-#[tactic(auto, unfolding(crate::specs::Reading::factor))]
+#[tactic(auto, unfolding(crate::specs::code::Reading::factor))]
 fn factor(alloc: Global, depth: usize, tokens: &[Token]) -> Result<(Expr, &[Token]), PartFault>
     ensures { Gives (λ x. (expression x.0, x.1.now)) result (spec.factor (spec.read depth) tokens.now) }
 {
@@ -156,7 +156,7 @@ fn factor(alloc: Global, depth: usize, tokens: &[Token]) -> Result<(Expr, &[Toke
 
 /// What no operator is in, but inside brackets.
 #[cycle(parser)]
-#[tactic(auto, unfolding(crate::specs::Reading::atom))]
+#[tactic(auto, unfolding(crate::specs::code::Reading::atom))]
 fn atom(alloc: Global, depth: usize, tokens: &[Token]) -> Result<(Expr, &[Token]), PartFault>
     ensures { Gives (λ x. (expression x.0, x.1.now)) result (spec.atom (spec.read depth) tokens.now) }
 {
@@ -178,7 +178,7 @@ fn atom(alloc: Global, depth: usize, tokens: &[Token]) -> Result<(Expr, &[Token]
 
 /// A call or a place, whose first name stands before the tokens.
 #[cycle(parser)]
-#[tactic(auto, unfolding(crate::specs::Reading::named))]
+#[tactic(auto, unfolding(crate::specs::code::Reading::named))]
 fn named<'t>(
     alloc: Global,
     depth: usize,
@@ -191,14 +191,14 @@ fn named<'t>(
         let (place, rest) = path_from(alloc, name, tokens)?;
         return Ok((Expr::Place(place), rest));
     };
-    let called = copy_name(alloc, name)?;
+    let called = name.copy()?;
     let (arguments, rest) = items(alloc, depth, ListEnd::Paren, Exprs::new(alloc), after)?;
     Ok((Expr::Call(called, arguments), rest))
 }
 
 /// An expression, or a tuple without its parentheses, up to the end.
 #[cycle(parser)]
-#[tactic(auto, unfolding(crate::specs::Reading::expressions))]
+#[tactic(auto, unfolding(crate::specs::code::Reading::expressions))]
 fn expressions(
     alloc: Global,
     depth: usize,

@@ -1,10 +1,9 @@
 //! Why a line has no form.
 
 use gp_base::LineNo;
-use std::alloc::{AllocError, AllocFailed};
 
 /// Why a line has no form. A line's number is that of its first physical line, counted from 1.
-#[derive(Clone, Copy, Debug, PartialEq, Eq)]
+#[derive(Clone, Copy)]
 pub enum FormFault {
     /// The line has more than 600 tokens, or more than 50 brackets are open at once somewhere in it.
     TooBig(LineNo),

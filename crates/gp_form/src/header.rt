@@ -1,8 +1,8 @@
 //! Reads the headers of blocks, behind their first word.
 
 ghost use Rattle.std.specs.Prelude.{◌≡◌};
-ghost use Rattle.gp_form.specs.FormReading as spec;
-ghost use Rattle.gp_form.specs.Steps.{Finds, Gives};
+ghost use Rattle.gp_form.specs.code.FormReading as spec;
+ghost use Rattle.gp_form.specs.code.Steps.{Finds, Gives};
 ghost use Rattle.gp_tree.specs.Form as spec_form;
 ghost use Rattle.gp_tree.specs.Form.{form, maybe_form};
 ghost use Rattle.gp_tree.specs.Expression.{expression};
@@ -16,13 +16,12 @@ use crate::soft_keyword::past_soft_word;
 use crate::statement::{alone, simple};
 use crate::step::{past_name, past_symbol, past_word};
 use crate::written_type::type_front;
-use gp_base::Name;
 use gp_lex::{Keyword, Symbol, Token};
 use gp_tree::{Expr, LineForm, TypeExpr};
 use std::alloc::Global;
 
 /// The colon at the end of a header, and the simple statement behind it, if there is one.
-#[tactic(auto, unfolding(crate::specs::FormReading::body))]
+#[tactic(auto, unfolding(crate::specs::code::FormReading::body))]
 fn body(alloc: Global, tokens: &[Token]) -> Result<Option<LineForm>, PartFault>
     ensures { Gives maybe_form result (spec.body tokens.now) }
 {
@@ -36,7 +35,7 @@ fn body(alloc: Global, tokens: &[Token]) -> Result<Option<LineForm>, PartFault>
 }
 
 /// The type of a function's result at the front, none where it is missing or `None`, and the tokens behind it.
-#[tactic(auto, unfolding(crate::specs::FormReading::result_type))]
+#[tactic(auto, unfolding(crate::specs::code::FormReading::result_type))]
 fn result_type(alloc: Global, tokens: &[Token]) -> Result<(Option<TypeExpr>, &[Token]), PartFault>
     ensures { Gives (λ x. (maybe_type x.0, x.1.now)) result (spec.result_type tokens.now) }
 {
@@ -51,7 +50,7 @@ fn result_type(alloc: Global, tokens: &[Token]) -> Result<(Option<TypeExpr>, &[T
 }
 
 /// What stands behind `def`.
-#[tactic(auto, unfolding(crate::specs::FormReading::def_header))]
+#[tactic(auto, unfolding(crate::specs::code::FormReading::def_header))]
 pub fn def_header(alloc: Global, tokens: &[Token]) -> Result<LineForm, PartFault>
     ensures { Gives form result (spec.def_header tokens.now) }
 {
@@ -61,7 +60,7 @@ pub fn def_header(alloc: Global, tokens: &[Token]) -> Result<LineForm, PartFault
     let Some(rest) = past_symbol(rest, Symbol::LeftParen) else {
         return Err(PartFault::NotSpelled);
     };
-    let name = Name::new(alloc, name.as_str())?;
+    let name = name.copy()?;
     let (found, rest) = params(alloc, rest)?;
     let (ty, rest) = result_type(alloc, rest)?;
     let body = body(alloc, rest)?;
@@ -69,8 +68,8 @@ pub fn def_header(alloc: Global, tokens: &[Token]) -> Result<LineForm, PartFault
 }
 
 /// What stands behind `class`.
-#[tactic(auto, unfolding(crate::specs::FormReading::class_header))]
-pub fn class_header(alloc: Global, tokens: &[Token]) -> Result<LineForm, PartFault>
+#[tactic(auto, unfolding(crate::specs::code::FormReading::class_header))]
+pub fn class_header(tokens: &[Token]) -> Result<LineForm, PartFault>
     ensures { Gives form result (spec.class_header tokens.now) }
 {
     let Some((name, rest)) = past_name(tokens) else {
@@ -79,7 +78,7 @@ pub fn class_header(alloc: Global, tokens: &[Token]) -> Result<LineForm, PartFau
     let Some(rest) = past_symbol(rest, Symbol::Colon) else {
         return Err(PartFault::NotSpelled);
     };
-    let name = Name::new(alloc, name.as_str())?;
+    let name = name.copy()?;
     alone(LineForm::Class(name), rest)
 }
 
@@ -117,7 +116,7 @@ pub fn while_header(alloc: Global, tokens: &[Token]) -> Result<LineForm, PartFau
 }
 
 /// What stands behind `else`.
-#[tactic(auto, unfolding(crate::specs::FormReading::else_header))]
+#[tactic(auto, unfolding(crate::specs::code::FormReading::else_header))]
 pub fn else_header(alloc: Global, tokens: &[Token]) -> Result<LineForm, PartFault>
     ensures { Gives form result (spec.else_header tokens.now) }
 {
@@ -126,7 +125,7 @@ pub fn else_header(alloc: Global, tokens: &[Token]) -> Result<LineForm, PartFaul
 }
 
 /// The tokens behind `in range(`.
-#[tactic(auto, unfolding(crate::specs::FormReading::past_range))]
+#[tactic(auto, unfolding(crate::specs::code::FormReading::past_range))]
 fn past_range(tokens: &[Token]) -> Option<&[Token]>
     ensures { Finds (λ rest. rest.now) result (spec.past_range tokens.now) }
 {
@@ -136,7 +135,7 @@ fn past_range(tokens: &[Token]) -> Option<&[Token]>
 }
 
 /// The tokens behind a comma, if they begin with one.
-#[tactic(auto, unfolding(crate::specs::FormReading::maybe_comma))]
+#[tactic(auto, unfolding(crate::specs::code::FormReading::maybe_comma))]
 fn maybe_comma(tokens: &[Token]) -> &[Token]
     ensures { result.now ≡ spec.maybe_comma tokens.now }
 {
@@ -147,7 +146,7 @@ fn maybe_comma(tokens: &[Token]) -> &[Token]
 }
 
 /// What stands behind `for`.
-#[tactic(auto, unfolding(crate::specs::FormReading::for_header))]
+#[tactic(auto, unfolding(crate::specs::code::FormReading::for_header))]
 pub fn for_header(alloc: Global, tokens: &[Token]) -> Result<LineForm, PartFault>
     ensures { Gives form result (spec.for_header tokens.now) }
 {
@@ -157,7 +156,7 @@ pub fn for_header(alloc: Global, tokens: &[Token]) -> Result<LineForm, PartFault
     let Some(rest) = past_range(rest) else {
         return Err(PartFault::NotSpelled);
     };
-    let name = Name::new(alloc, name.as_str())?;
+    let name = name.copy()?;
     let (count, rest) = expression_front(alloc, rest)?;
     let Some(rest) = past_symbol(maybe_comma(rest), Symbol::RightParen) else {
         return Err(PartFault::NotSpelled);

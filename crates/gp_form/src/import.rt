@@ -2,11 +2,11 @@
 
 ghost use Rattle.std.specs.Prelude.{◌≡◌, IfOk};
 ghost use Rattle.gp_form.specs.declared.list_end.ListEnd.TheVariants as until;
-ghost use Rattle.gp_form.specs.FormReading as spec;
+ghost use Rattle.gp_form.specs.code.FormReading as spec;
 ghost use Rattle.gp_form.specs.Forms.{dotted};
-ghost use Rattle.gp_form.specs.Reading.{past_end};
-ghost use Rattle.gp_form.specs.Steps as step;
-ghost use Rattle.gp_form.specs.Steps.{Gives};
+ghost use Rattle.gp_form.specs.code.Reading.{past_end};
+ghost use Rattle.gp_form.specs.code.Steps as step;
+ghost use Rattle.gp_form.specs.code.Steps.{Gives};
 ghost use Rattle.gp_tree.specs.Form.{form};
 
 use crate::list_end::{ListEnd, past_end};
@@ -21,7 +21,7 @@ use gp_tree::{LineForm, Place};
 use std::alloc::{AllocError, Global};
 
 /// What stands behind `@`.
-#[tactic(auto, unfolding(crate::specs::FormReading::decorator))]
+#[tactic(auto, unfolding(crate::specs::code::FormReading::decorator))]
 pub fn decorator(tokens: &[Token]) -> Result<LineForm, PartFault>
     ensures { Gives form result (spec.decorator tokens.now) }
 {
@@ -41,7 +41,7 @@ pub fn decorator(tokens: &[Token]) -> Result<LineForm, PartFault>
 }
 
 /// What stands behind `from`.
-#[tactic(auto, unfolding(crate::specs::FormReading::import_names))]
+#[tactic(auto, unfolding(crate::specs::code::FormReading::import_names))]
 pub fn import_names(alloc: Global, tokens: &[Token]) -> Result<LineForm, PartFault>
     ensures { Gives form result (spec.import_names tokens.now) }
 {
@@ -66,7 +66,7 @@ fn dotted(alloc: Global, path: &Place) -> Result<Name, AllocError>
 }
 
 /// What stands behind `import`.
-#[tactic(auto, unfolding(crate::specs::FormReading::imported))]
+#[tactic(auto, unfolding(crate::specs::code::FormReading::imported))]
 fn imported(alloc: Global, tokens: &[Token]) -> Result<Names, PartFault>
     ensures { Gives (λ x. x) result (spec.imported tokens.now) }
 {
@@ -88,13 +88,13 @@ fn some_names(names: Names, rest: &[Token]) -> Result<Names, PartFault>
 }
 
 /// The name at the front, and the tokens behind it.
-fn name_front(alloc: Global, tokens: &[Token]) -> Result<(Name, &[Token]), PartFault>
+fn name_front(tokens: &[Token]) -> Result<(Name, &[Token]), PartFault>
     ensures { Gives (λ x. (x.0, x.1.now)) result (step.past_name tokens.now) }
 {
     let Some((name, rest)) = past_name(tokens) else {
         return Err(PartFault::NotSpelled);
     };
-    Ok((Name::new(alloc, name.as_str())?, rest))
+    Ok((name.copy()?, rest))
 }
 
 /// Names with commas between them, up to the end of the tokens.
@@ -104,7 +104,7 @@ fn bare_names(alloc: Global, tokens: &[Token]) -> Result<Names, PartFault>
     let mut found = Names::new(alloc);
     let mut rest = tokens;
     for _turn in 0..tokens.len() {
-        let (item, next) = name_front(alloc, rest)?;
+        let (item, next) = name_front(rest)?;
         found.push(item)?;
         if past_end(next, ListEnd::Line).is_some() {
             return Ok(found);
@@ -127,7 +127,7 @@ fn names_inside(alloc: Global, tokens: &[Token]) -> Result<(Names, &[Token]), Pa
         if let Some(after) = past_end(rest, ListEnd::Paren) {
             return Ok((found, after));
         }
-        let (item, next) = name_front(alloc, rest)?;
+        let (item, next) = name_front(rest)?;
         found.push(item)?;
         if let Some(after) = past_end(next, ListEnd::Paren) {
             return Ok((found, after));

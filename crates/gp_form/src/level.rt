@@ -2,8 +2,8 @@
 
 ghost use Rattle.std.specs.Prelude.{◌≡◌, IfOk};
 ghost use Rattle.gp_form.specs.Grammar as grammar;
-ghost use Rattle.gp_form.specs.Reading as spec;
-ghost use Rattle.gp_form.specs.Steps.{Finds};
+ghost use Rattle.gp_form.specs.code.Reading as spec;
+ghost use Rattle.gp_form.specs.code.Steps.{Finds};
 ghost use Rattle.gp_tree.specs.Expression.{expression};
 
 use gp_lex::{Keyword, Symbol, Token};
@@ -11,7 +11,7 @@ use gp_tree::{BinOp, Expr};
 use std::alloc::{AllocError, Global};
 
 /// A level of the grammar of expressions, by the names of Python's grammar, the loosest first.
-#[derive(Clone, Copy, Debug, PartialEq, Eq)]
+#[derive(Clone, Copy)]
 pub enum Level {
     /// Any expression, `a if c else b` among them.
     Whole,
@@ -34,7 +34,7 @@ pub enum Level {
 }
 
 /// What joins two operands.
-#[derive(Clone, Copy, Debug, PartialEq, Eq)]
+#[derive(Clone, Copy)]
 pub enum Join {
     /// `and`
     And,
@@ -67,7 +67,7 @@ pub fn join_at(level: Level, token: &Token) -> Option<Join>
 }
 
 /// What joins two operands at this level, and the tokens behind it.
-#[tactic(auto, unfolding(crate::specs::Reading::past_join))]
+#[tactic(auto, unfolding(crate::specs::code::Reading::past_join))]
 pub fn past_join(tokens: &[Token], level: Level) -> Option<(Join, &[Token])>
     ensures { Finds (λ x. (x.0, x.1.now)) result (spec.past_join level tokens.now) }
 {

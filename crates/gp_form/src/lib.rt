@@ -23,6 +23,3 @@ mod written_type;
 
 pub use form_fault::FormFault;
 pub use line::line_form;
-
-#[cfg(test)]
-mod tests;

@@ -1,8 +1,8 @@
 //! Reads the form of a logical line.
 
-ghost use Rattle.gp_form.specs.FormReading as spec;
+ghost use Rattle.gp_form.specs.code.FormReading as spec;
 ghost use Rattle.gp_form.specs.LineForms.{IsFormOf};
-ghost use Rattle.gp_form.specs.Steps.{Finds, Gives};
+ghost use Rattle.gp_form.specs.code.Steps.{Finds, Gives};
 ghost use Rattle.std.specs.Prelude.{◌≡◌};
 ghost use Rattle.gp_tree.specs.Form.{form};
 
@@ -39,7 +39,7 @@ pub fn line_form(alloc: Global, line: &LogicalLine) -> Result<LineForm, FormFaul
 }
 
 /// The form that all of the tokens spell.
-#[tactic(auto, unfolding(crate::specs::FormReading::line))]
+#[tactic(auto, unfolding(crate::specs::code::FormReading::line))]
 fn form_of(alloc: Global, tokens: &[Token]) -> Result<LineForm, PartFault>
     ensures { Gives form result (spec.line tokens.now) }
 {
@@ -53,7 +53,7 @@ fn form_of(alloc: Global, tokens: &[Token]) -> Result<LineForm, PartFault>
 }
 
 /// The keyword that is the first token, and the tokens behind it.
-#[tactic(auto, unfolding(crate::specs::FormReading::first_word))]
+#[tactic(auto, unfolding(crate::specs::code::FormReading::first_word))]
 fn first_word(tokens: &[Token]) -> Option<(Keyword, &[Token])>
     ensures { Finds (λ x. (x.0, x.1.now)) result (spec.first_word tokens.now) }
 {
@@ -74,7 +74,7 @@ fn led(
 {
     match word {
         Keyword::DefWord => def_header(alloc, rest),
-        Keyword::ClassWord => class_header(alloc, rest),
+        Keyword::ClassWord => class_header(rest),
         Keyword::IfWord => if_header(alloc, rest),
         Keyword::ElifWord => elif_header(alloc, rest),
         Keyword::WhileWord => while_header(alloc, rest),

@@ -2,9 +2,9 @@
 
 ghost use Rattle.std.specs.Prelude.{◌≡◌, map};
 ghost use Rattle.gp_form.specs.declared.list_end.ListEnd.TheVariants as until;
-ghost use Rattle.gp_form.specs.FormReading as spec;
-ghost use Rattle.gp_form.specs.Reading.{past_end};
-ghost use Rattle.gp_form.specs.Steps.{Finds, Gives};
+ghost use Rattle.gp_form.specs.code.FormReading as spec;
+ghost use Rattle.gp_form.specs.code.Reading.{past_end};
+ghost use Rattle.gp_form.specs.code.Steps.{Finds, Gives};
 ghost use Rattle.gp_tree.specs.Form.{parameter};
 
 use crate::list_end::{ListEnd, past_end};
@@ -12,13 +12,12 @@ use crate::part_fault::PartFault;
 use crate::soft_keyword::past_soft_word;
 use crate::step::{past_name, past_symbol};
 use crate::written_type::type_front;
-use gp_base::Name;
 use gp_lex::{Symbol, Token};
 use gp_tree::{Param, Params};
 use std::alloc::Global;
 
 /// Whether the mark `@owned` stands at the front, and the tokens behind it.
-#[tactic(auto, unfolding(crate::specs::FormReading::owned_mark))]
+#[tactic(auto, unfolding(crate::specs::code::FormReading::owned_mark))]
 fn owned_mark(tokens: &[Token]) -> Option<(bool, &[Token])>
     ensures { Finds (λ x. (x.0, x.1.now)) result (spec.owned_mark tokens.now) }
 {
@@ -30,7 +29,7 @@ fn owned_mark(tokens: &[Token]) -> Option<(bool, &[Token])>
 }
 
 /// The parameter at the front, and the tokens behind it.
-#[tactic(auto, unfolding(crate::specs::FormReading::param))]
+#[tactic(auto, unfolding(crate::specs::code::FormReading::param))]
 fn param(alloc: Global, tokens: &[Token]) -> Result<(Param, &[Token]), PartFault>
     ensures { Gives (λ x. (parameter x.0, x.1.now)) result (spec.param tokens.now) }
 {
@@ -44,7 +43,7 @@ fn param(alloc: Global, tokens: &[Token]) -> Result<(Param, &[Token]), PartFault
     let Some((owned, rest)) = owned_mark(rest) else {
         return Err(PartFault::NotSpelled);
     };
-    let name = Name::new(alloc, name.as_str())?;
+    let name = name.copy()?;
     Ok((Param { name, ty, owned }, rest))
 }
 

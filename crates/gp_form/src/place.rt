@@ -1,18 +1,18 @@
 //! Reads places.
 
 ghost use Rattle.std.specs.Prelude.{◌≡◌, [], length};
-ghost use Rattle.gp_form.specs.Reading as spec;
-ghost use Rattle.gp_form.specs.Steps.{Gives};
+ghost use Rattle.gp_form.specs.code.Reading as spec;
+ghost use Rattle.gp_form.specs.code.Steps.{Gives};
 
 use crate::part_fault::PartFault;
 use crate::step::{past_name, past_symbol};
 use gp_base::{Name, Names};
 use gp_lex::{Symbol, Token};
-use gp_tree::{Place, copy_name};
+use gp_tree::Place;
 use std::alloc::Global;
 
 /// The place at the front, and the tokens behind it.
-#[tactic(auto, unfolding(crate::specs::Reading::place_front))]
+#[tactic(auto, unfolding(crate::specs::code::Reading::place_front))]
 pub fn place_front(alloc: Global, tokens: &[Token]) -> Result<(Place, &[Token]), PartFault>
     ensures { Gives (λ x. (x.0, x.1.now)) result (spec.place_front tokens.now) }
 {
@@ -23,7 +23,7 @@ pub fn place_front(alloc: Global, tokens: &[Token]) -> Result<(Place, &[Token]),
 }
 
 /// The place that a name begins, which stands before the tokens.
-#[tactic(auto, unfolding(crate::specs::Reading::path_from))]
+#[tactic(auto, unfolding(crate::specs::code::Reading::path_from))]
 pub fn path_from<'t>(
     alloc: Global,
     name: &Name,
@@ -31,7 +31,7 @@ pub fn path_from<'t>(
 ) -> Result<(Place, &'t [Token]), PartFault>
     ensures { Gives (λ x. (x.0, x.1.now)) result (spec.path_from name.now tokens.now) }
 {
-    let name = copy_name(alloc, name)?;
+    let name = name.copy()?;
     let (fields, rest) = fields_from(alloc, tokens)?;
     Ok((Place { name, fields }, rest))
 }
@@ -49,7 +49,7 @@ fn fields_from(alloc: Global, tokens: &[Token]) -> Result<(Names, &[Token]), Par
         let Some((field, after)) = past_name(after) else {
             return Err(PartFault::NotSpelled);
         };
-        fields.push(copy_name(alloc, field)?)?;
+        fields.push(field.copy()?)?;
         rest = after;
     }
     Ok((fields, rest))

@@ -1,8 +1,9 @@
 //! Reads simple statements, and the two other forms that no keyword leads: fields and module calls.
 
 ghost use Rattle.std.specs.Prelude.{◌≡◌, IsTrue, ◌↔◌};
-ghost use Rattle.gp_form.specs.FormReading as spec;
-ghost use Rattle.gp_form.specs.Steps.{Finds, Gives};
+ghost use Rattle.gp_form.specs.declared.part_fault.PartFault.TheVariants.{NotSpelled};
+ghost use Rattle.gp_form.specs.code.FormReading as spec;
+ghost use Rattle.gp_form.specs.code.Steps.{Finds, Gives};
 ghost use Rattle.gp_tree.specs.Expression.{expression};
 ghost use Rattle.gp_tree.specs.Form.{form};
 
@@ -20,7 +21,7 @@ use gp_tree::{Expr, LineForm};
 use std::alloc::Global;
 
 /// The simple statement that all of the tokens are.
-#[tactic(auto, unfolding(crate::specs::FormReading::simple))]
+#[tactic(auto, unfolding(crate::specs::code::FormReading::simple))]
 pub fn simple(alloc: Global, tokens: &[Token]) -> Result<LineForm, PartFault>
     ensures { Gives form result (spec.simple tokens.now) }
 {
@@ -32,7 +33,7 @@ pub fn simple(alloc: Global, tokens: &[Token]) -> Result<LineForm, PartFault>
 }
 
 /// The simple statement, field or module call that all of the tokens are.
-#[tactic(auto, unfolding(crate::specs::FormReading::statement))]
+#[tactic(auto, unfolding(crate::specs::code::FormReading::statement))]
 pub fn statement(alloc: Global, tokens: &[Token]) -> Result<LineForm, PartFault>
     ensures { Gives form result (spec.statement tokens.now) }
 {
@@ -57,12 +58,20 @@ pub fn alone(read: LineForm, rest: &[Token]) -> Result<LineForm, PartFault>
 {
     match past_end(rest, ListEnd::Line) {
         Some(_) => Ok(read),
-        None => Err(PartFault::NotSpelled),
+        None => Err(refused(read)),
     }
 }
 
+/// The fault of tokens that read as a form and are none.
+fn refused(read: LineForm) -> PartFault
+    ensures { result ≡ NotSpelled }
+{
+    drop(read);
+    PartFault::NotSpelled
+}
+
 /// What stands behind `return`.
-#[tactic(auto, unfolding(crate::specs::FormReading::returned))]
+#[tactic(auto, unfolding(crate::specs::code::FormReading::returned))]
 fn returned(alloc: Global, tokens: &[Token]) -> Result<LineForm, PartFault>
     ensures { Gives form result (spec.returned tokens.now) }
 {
@@ -76,7 +85,7 @@ fn returned(alloc: Global, tokens: &[Token]) -> Result<LineForm, PartFault>
 }
 
 /// A statement that no word leads.
-#[tactic(auto, unfolding(crate::specs::FormReading::unled))]
+#[tactic(auto, unfolding(crate::specs::code::FormReading::unled))]
 fn unled(alloc: Global, tokens: &[Token]) -> Result<LineForm, PartFault>
     ensures { Gives form result (spec.unled tokens.now) }
 {
@@ -90,7 +99,7 @@ fn unled(alloc: Global, tokens: &[Token]) -> Result<LineForm, PartFault>
 }
 
 /// The name before a colon, and the tokens behind the colon.
-#[tactic(auto, unfolding(crate::specs::FormReading::past_declared))]
+#[tactic(auto, unfolding(crate::specs::code::FormReading::past_declared))]
 fn past_declared(tokens: &[Token]) -> Option<(&Name, &[Token])>
     ensures { Finds (λ x. (x.0.now, x.1.now)) result (spec.past_declared tokens.now) }
 {
@@ -100,11 +109,11 @@ fn past_declared(tokens: &[Token]) -> Option<(&Name, &[Token])>
 }
 
 /// A field or an annotated assignment, whose name and colon stand before the tokens.
-#[tactic(auto, unfolding(crate::specs::FormReading::declaration))]
+#[tactic(auto, unfolding(crate::specs::code::FormReading::declaration))]
 fn declaration(alloc: Global, name: &Name, tokens: &[Token]) -> Result<LineForm, PartFault>
     ensures { Gives form result (spec.declaration name.now tokens.now) }
 {
-    let name = Name::new(alloc, name.as_str())?;
+    let name = name.copy()?;
     let (ty, rest) = type_front(alloc, tokens)?;
     if past_end(rest, ListEnd::Line).is_some() {
         return Ok(LineForm::Field(name, ty));
@@ -117,7 +126,7 @@ fn declaration(alloc: Global, name: &Name, tokens: &[Token]) -> Result<LineForm,
 }
 
 /// An assignment, from what stands before and behind the token that assigns.
-#[tactic(auto, unfolding(crate::specs::FormReading::assigned))]
+#[tactic(auto, unfolding(crate::specs::code::FormReading::assigned))]
 fn assigned(
     alloc: Global,
     left: &[Token],
@@ -152,12 +161,12 @@ fn all_expression(alloc: Global, tokens: &[Token]) -> Result<Expr, PartFault>
 }
 
 /// A statement that neither assigns nor declares.
-#[tactic(auto, unfolding(crate::specs::FormReading::evaluated))]
+#[tactic(auto, unfolding(crate::specs::code::FormReading::evaluated))]
 fn evaluated(alloc: Global, tokens: &[Token]) -> Result<LineForm, PartFault>
     ensures { Gives form result (spec.evaluated tokens.now) }
 {
     if let Some(name) = module_call(tokens) {
-        return Ok(LineForm::ModuleCall(Name::new(alloc, name.as_str())?));
+        return Ok(LineForm::ModuleCall(name.copy()?));
     }
     if docstring(tokens).is_some() {
         return Ok(LineForm::Docstring);
@@ -166,7 +175,7 @@ fn evaluated(alloc: Global, tokens: &[Token]) -> Result<LineForm, PartFault>
 }
 
 /// The name before the dot of a module call.
-#[tactic(auto, unfolding(crate::specs::FormReading::module_call))]
+#[tactic(auto, unfolding(crate::specs::code::FormReading::module_call))]
 fn module_call(tokens: &[Token]) -> Option<&Name>
     ensures { Finds (λ name. name.now) result (spec.module_call tokens.now) }
 {
@@ -180,7 +189,7 @@ fn module_call(tokens: &[Token]) -> Option<&Name>
 }
 
 /// The tokens behind a word that a module is called with.
-#[tactic(auto, unfolding(crate::specs::FormReading::past_request))]
+#[tactic(auto, unfolding(crate::specs::code::FormReading::past_request))]
 fn past_request(tokens: &[Token]) -> Option<&[Token]>
     ensures { Finds (λ rest. rest.now) result (spec.past_request tokens.now) }
 {
@@ -191,7 +200,7 @@ fn past_request(tokens: &[Token]) -> Option<&[Token]>
 }
 
 /// The tokens behind a string.
-#[tactic(auto, unfolding(crate::specs::FormReading::past_string))]
+#[tactic(auto, unfolding(crate::specs::code::FormReading::past_string))]
 fn past_string(tokens: &[Token]) -> Option<&[Token]>
     ensures { Finds (λ rest. rest.now) result (spec.past_string tokens.now) }
 {
@@ -202,7 +211,7 @@ fn past_string(tokens: &[Token]) -> Option<&[Token]>
 }
 
 /// No tokens, where all of the tokens are one string.
-#[tactic(auto, unfolding(crate::specs::FormReading::docstring))]
+#[tactic(auto, unfolding(crate::specs::code::FormReading::docstring))]
 fn docstring(tokens: &[Token]) -> Option<&[Token]>
     ensures { Finds (λ rest. rest.now) result (spec.docstring tokens.now) }
 {

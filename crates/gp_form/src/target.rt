@@ -1,9 +1,9 @@
 //! Reads the targets of assignments.
 
 ghost use Rattle.std.specs.Prelude.{◌≡◌, [], ◌∷◌};
-ghost use Rattle.gp_form.specs.FormReading as spec;
-ghost use Rattle.gp_form.specs.Reading.{place_front, past_end};
-ghost use Rattle.gp_form.specs.Steps.{Gives, with_front};
+ghost use Rattle.gp_form.specs.code.FormReading as spec;
+ghost use Rattle.gp_form.specs.code.Reading.{place_front, past_end};
+ghost use Rattle.gp_form.specs.code.Steps.{Gives, with_front};
 
 use crate::list_end::{ListEnd, past_end};
 use crate::part_fault::PartFault;
@@ -14,7 +14,7 @@ use gp_tree::{Place, Places, Targets};
 use std::alloc::Global;
 
 /// What stands to the left of `=`, which is all of the tokens.
-#[tactic(auto, unfolding(crate::specs::FormReading::targets))]
+#[tactic(auto, unfolding(crate::specs::code::FormReading::targets))]
 pub fn targets(alloc: Global, tokens: &[Token]) -> Result<Targets, PartFault>
     ensures { Gives (λ x. x) result (spec.targets tokens.now) }
 {
@@ -25,7 +25,7 @@ pub fn targets(alloc: Global, tokens: &[Token]) -> Result<Targets, PartFault>
 }
 
 /// The pattern whose opening parenthesis stands before the tokens.
-#[tactic(auto, unfolding(crate::specs::FormReading::pattern_inside))]
+#[tactic(auto, unfolding(crate::specs::code::FormReading::pattern_inside))]
 fn pattern_inside(alloc: Global, tokens: &[Token]) -> Result<Targets, PartFault>
     ensures { Gives (λ x. x) result (spec.pattern_inside tokens.now) }
 {
@@ -41,7 +41,7 @@ fn pattern_inside(alloc: Global, tokens: &[Token]) -> Result<Targets, PartFault>
 }
 
 /// One place, or a pattern without parentheses.
-#[tactic(auto, unfolding(crate::specs::FormReading::pattern_outside))]
+#[tactic(auto, unfolding(crate::specs::code::FormReading::pattern_outside))]
 fn pattern_outside(alloc: Global, tokens: &[Token]) -> Result<Targets, PartFault>
     ensures { Gives (λ x. x) result (spec.pattern_outside tokens.now) }
 {

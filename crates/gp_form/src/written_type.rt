@@ -4,15 +4,14 @@
 
 ghost use Rattle.std.specs.Prelude.{◌≡◌, map};
 ghost use Rattle.gp_lex.specs.declared.token.Symbol.TheVariants as symbol;
-ghost use Rattle.gp_form.specs.FormReading as spec;
-ghost use Rattle.gp_form.specs.Steps as step;
-ghost use Rattle.gp_form.specs.Steps.{Finds, Gives};
+ghost use Rattle.gp_form.specs.code.FormReading as spec;
+ghost use Rattle.gp_form.specs.code.Steps as step;
+ghost use Rattle.gp_form.specs.code.Steps.{Finds, Gives};
 ghost use Rattle.gp_tree.specs.TypeExpression.{type_expression};
 
 use crate::part_fault::PartFault;
 use crate::soft_keyword::past_soft_word;
 use crate::step::{past_name, past_symbol};
-use gp_base::Name;
 use gp_lex::{Symbol, Token};
 use gp_tree::{TypeExpr, TypeExprs};
 use std::alloc::Global;
@@ -25,7 +24,7 @@ pub fn type_front(alloc: Global, tokens: &[Token]) -> Result<(TypeExpr, &[Token]
 }
 
 /// The tokens behind the word `tuple` and its bracket.
-#[tactic(auto, unfolding(crate::specs::FormReading::past_tuple))]
+#[tactic(auto, unfolding(crate::specs::code::FormReading::past_tuple))]
 fn past_tuple(tokens: &[Token]) -> Option<&[Token]>
     ensures { Finds (λ rest. rest.now) result (spec.past_tuple tokens.now) }
 {
@@ -46,7 +45,7 @@ fn type_at(alloc: Global, depth: usize, tokens: &[Token]) -> Result<(TypeExpr, &
 
 /// The same, where the depth is that of the types in its brackets.
 #[cycle(types)]
-#[tactic(auto, unfolding(crate::specs::FormReading::type_with))]
+#[tactic(auto, unfolding(crate::specs::code::FormReading::type_with))]
 fn type_with(
     alloc: Global,
     depth: usize,
@@ -55,7 +54,7 @@ fn type_with(
     ensures { Gives (λ x. (type_expression x.0, x.1.now)) result (spec.type_with (spec.type_at depth) tokens.now) }
 {
     let Some(inside) = past_tuple(tokens) else {
-        return named(alloc, tokens);
+        return named(tokens);
     };
     let (parts, rest) = types(alloc, depth, inside)?;
     match tuple(parts) {
@@ -75,13 +74,13 @@ fn tuple(parts: TypeExprs) -> Option<TypeExpr>
 }
 
 /// A type that is a name.
-fn named(alloc: Global, tokens: &[Token]) -> Result<(TypeExpr, &[Token]), PartFault>
+fn named(tokens: &[Token]) -> Result<(TypeExpr, &[Token]), PartFault>
     ensures { Gives (λ x. (type_expression x.0, x.1.now)) result (spec.a_named_type tokens.now) }
 {
     let Some((name, rest)) = past_name(tokens) else {
         return Err(PartFault::NotSpelled);
     };
-    let name = Name::new(alloc, name.as_str())?;
+    let name = name.copy()?;
     Ok((TypeExpr::Named(name), rest))
 }
 

@@ -1,1 +1,4 @@
+pub mod LexFaults
+pub mod LineAnswers
+pub mod TypeFaults
 pub mod OneAnswer

@@ -1,6 +1,5 @@
 -- Each phase has one answer, and with the phases a text.
 use Rattle.std.proofs.Common.{◌≡◌, ◌≢◌, ◌∙◌, ℕ, List, [], ◌∷◌, ◌++◌, Option, Some, None, Result, Ok, Err, ◌⊎◌, inl, inr, refl, sym, ap, subst}
-use Rattle.std.specs.Prelude.{MatchOption}
 use Rattle.gp_base.specs.declared.name.LineNo.{LineNo}
 use Rattle.gp_lex.specs.declared.fault.LexFault.{LexFault}
 use Rattle.gp_lex.specs.declared.fault.LexFault.TheVariants as lex
@@ -10,22 +9,20 @@ use Rattle.gp_form.specs.LineSize.{IsTooBig}
 use Rattle.gp_form.specs.Forms.{SpellsForm}
 use Rattle.gp_tree.specs.declared.program.Item.{Item}
 use Rattle.gp_tree.specs.Form.{Form}
-use Rattle.gp_tree.specs.Program.{ProgramItem, StructDefinition, program_items}
-use Rattle.gp_nest.specs.declared.parse_fault.ParseFault.{ParseFault}
-use Rattle.gp_nest.specs.declared.parse_fault.ParseFault.TheVariants as parse
-use Rattle.gp_nest.specs.FirstFault.{Fault, nesting, too_deep}
-use Rattle.gp_nest.specs.Nesting.{Line}
-use Rattle.gp_nest.specs.Nested.{IsProgramOf, IsFaultOf}
-use Rattle.gp_nest.specs.Programs.{IsFormLine, AreFormLines, HaveForms, IsRefused, IsTooBigAt, IsNoLineAt, IsProgram}
+use Rattle.gp_tree.specs.Program.{ProgramItem, program_items}
+use Rattle.gp_parse.specs.declared.parse_fault.ParseFault.{ParseFault}
+use Rattle.gp_parse.specs.declared.parse_fault.ParseFault.TheVariants as parse
+use Rattle.gp_parse.specs.FirstFault.{Fault, nesting, too_deep}
+use Rattle.gp_parse.specs.Nesting.{Line}
+use Rattle.gp_parse.specs.Nested.{IsProgramOf, IsFaultOf}
+use Rattle.gp_parse.specs.Programs.{IsFormLine, AreFormLines, HaveForms, IsRefused, IsTooBigAt, IsNoLineAt, IsProgram}
 use Rattle.gp_scope.specs.declared.fault.ScopeFault.{ScopeFault}
 use Rattle.gp_scope.specs.declared.fault.ScopeFault.TheVariants as scope
 use Rattle.gp_scope.specs.declared.scope.Scope.{Scope}
 use Rattle.gp_scope.specs.Checks.{Found}
-use Rattle.gp_scope.specs.Collected.{CollectAnswer}
-use Rattle.gp_scope.specs.Definitions.{structs_in}
-use Rattle.gp_scope.specs.FirstFault.{names_fault, FindsCycle, IsFirstFault}
+use Rattle.gp_scope.specs.FirstFault.{IsFirstFault}
 use Rattle.gp_scope.specs.Known.{known_of}
-use Rattle.gp_scope.specs.Sizes.{sizes_fault}
+use Rattle.gp_scope.specs.ScopeView.{IsScopeOf}
 use Rattle.gp_typing.specs.declared.fault.TypeFault.{TypeFault}
 use Rattle.gp_typing.specs.declared.fault.TypeFault.TheVariants as type
 use Rattle.gp_typing.specs.Functions.{program_typing}
@@ -34,8 +31,13 @@ use Rattle.gp_typing.specs.TypedView.{typed_view}
 use Rattle.gp_front.specs.declared.checked.CheckedText.{CheckedText}
 use Rattle.gp_front.specs.declared.fault.TextFault.{TextFault}
 use Rattle.gp_front.specs.declared.fault.TextFault.TheVariants as fault
-use Rattle.gp_front.specs.Checked.{IsRead, IsNamed, IsTyped, HasTypeFault, IsTextOf, IsChecked}
-use Rattle.gp_front.specs.OneAnswer.{IsOfText, TextsHaveOneAnswer}
+use Rattle.gp_front.specs.Checked.{IsRead, IsTextOf, IsChecked}
+use Rattle.gp_front.specs.OneAnswer.{IsOfText, SayTheSame, HasProgram, HasFirstFault, TextsHaveOneAnswer}
+use Rattle.gp_front.specs.TextAnswers.{Nest, Reads, IsProgramText, HasNameFault, IsFaultyText}
+use Rattle.gp_scope.proofs.NamesLaws.{one_found, names_have_one_answer}
+use Rattle.gp_front.proofs.LexFaults.{not_memory}
+use Rattle.gp_front.proofs.LineAnswers.{program_or_fault}
+use Rattle.gp_front.proofs.TypeFaults.{type_faults}
 
 -- ---- lines
 
@@ -108,11 +110,11 @@ odd_first xs n h = record { refused = h.first; none = λ y l. h.spells y.form l.
 same_forms : (xs : List LogicalLine) (ys zs : List Line) → HaveForms xs ys → HaveForms xs zs → zs ≡ ys
 same_forms xs ys zs h k = h.only zs k.forms
 
-one_program_read : (xs : List LogicalLine) (items others : List Item) → IsProgram xs (Ok items) → IsProgram xs (Ok others) → program_items others ≡ program_items items
+one_program_read : (xs : List LogicalLine) (items others : List ProgramItem) → Nest xs (Ok items) → Nest xs (Ok others) → others ≡ items
 one_program_read xs items others p q =
     let e : q.0 ≡ p.0 = same_forms xs p.0 q.0 p.1 q.1 in
-    let h : IsProgramOf p.0 (program_items others) = subst (λ ys. IsProgramOf ys (program_items others)) e q.2 in
-    p.2.only (program_items others) h.nests
+    let h : IsProgramOf p.0 others = subst (λ ys. IsProgramOf ys others) e q.2 in
+    p.2.only others h.nests
 
 faults_same : (xs : List LogicalLine) (d e : Fault) → ((ys : List Line) × HaveForms xs ys × IsFaultOf ys d) → ((ys : List Line) × HaveForms xs ys × IsFaultOf ys e) → d ≡ e
 faults_same xs d e p q =
@@ -149,32 +151,27 @@ one_parse_fault xs (parse.TooDeep n) (parse.NotALine m) o u p q = absurd (no_for
 one_parse_fault xs (parse.TooDeep n) (parse.Nesting m) o u p q = absurd (let e = faults_same xs (too_deep n) (nesting m) p q in cc)
 one_parse_fault xs (parse.TooDeep n) (parse.TooDeep m) o u p q = ap (λ d. parse.TooDeep (line_of_fault d)) (faults_same xs (too_deep n) (too_deep m) p q)
 
-never_both_read : (xs : List LogicalLine) (items : List Item) (f : ParseFault) → f ≢ parse.Memory → IsProgram xs (Ok items) → IsProgram xs (Err f) → ⊥
+never_both_read : (xs : List LogicalLine) (items : List ProgramItem) (f : ParseFault) → f ≢ parse.Memory → Nest xs (Ok items) → IsProgram xs (Err f) → ⊥
 never_both_read xs items parse.Memory o p q = o refl
 never_both_read xs items (parse.TooBig n) o p q = no_forms xs q.line p.0 (big_first xs n q) p.1
 never_both_read xs items (parse.NotALine n) o p q = no_forms xs q.line p.0 (odd_first xs n q) p.1
-never_both_read xs items (parse.Nesting n) o p q = q.2.no_program (program_items items) (subst (λ ys. IsProgramOf ys (program_items items)) (same_forms xs q.0 p.0 q.1 p.1) p.2).nests
-never_both_read xs items (parse.TooDeep n) o p q = q.2.no_program (program_items items) (subst (λ ys. IsProgramOf ys (program_items items)) (same_forms xs q.0 p.0 q.1 p.1) p.2).nests
+never_both_read xs items (parse.Nesting n) o p q = q.2.no_program items (subst (λ ys. IsProgramOf ys items) (same_forms xs q.0 p.0 q.1 p.1) p.2).nests
+never_both_read xs items (parse.TooDeep n) o p q = q.2.no_program items (subst (λ ys. IsProgramOf ys items) (same_forms xs q.0 p.0 q.1 p.1) p.2).nests
 
--- ---- names
+-- ---- what is answered, as plain data
 
-one_cycle : (program : List ProgramItem) (ss : List StructDefinition) (next a b : Found) → FindsCycle program ss next a → FindsCycle program ss next b → a ≡ b
-one_cycle program [] next a b f g = f ∙ sym g
-one_cycle program (s ∷ ss) next a b (inl f) (inl g) = f.1 ∙ sym g.1
-one_cycle program (s ∷ ss) next a b (inl f) (inr g) = absurd (g.0 f.0)
-one_cycle program (s ∷ ss) next a b (inr f) (inl g) = absurd (f.0 g.0)
-one_cycle program (s ∷ ss) next a b (inr f) (inr g) = one_cycle program ss next a b f.1 g.1
+told_read : (text : List ℕ) (items : List Item) → IsRead text (Ok items) → Reads text (Ok (program_items items))
+told_read text items r = record { lines = r.lines; lexed = r.lexed; nested = r.nested }
 
-one_found : (program : List ProgramItem) (a b : Found) → IsFirstFault program a → IsFirstFault program b → a ≡ b
-one_found program a b = go (names_fault program) where
-  go : (o : Found) → MatchOption o (FindsCycle program (structs_in program) (sizes_fault program program) a) (λ f. a ≡ Some f)
-      → MatchOption o (FindsCycle program (structs_in program) (sizes_fault program program) b) (λ f. b ≡ Some f) → a ≡ b
-  go None f g = one_cycle program (structs_in program) (sizes_fault program program) a b f g
-  go (Some x) f g = f ∙ sym g
+told_program : (text : List ℕ) (a : CheckedText) → IsTextOf text a → IsProgramText text (program_items a.program) (typed_view a.typed)
+told_program text a h = record { read = told_read text a.program h.typed.read; named = h.typed.collected.0; typed = h.typed.typed }
 
-abbrev scope_fault_of : ScopeFault → Found → ScopeFault
-scope_fault_of d None = d
-scope_fault_of d (Some f) = f
+told_fault : (text : List ℕ) (f : TextFault) → IsOfText f → IsChecked text (Err f) → IsFaultyText text f
+told_fault text (fault.Lex f) o h = lex_fault text f o h
+told_fault text (fault.Parse f) o h = record { lines = h.lines; lexed = h.lexed; nested = h.nested }
+told_fault text (fault.Scope f) o h = record { items = program_items h.program; read = told_read text h.program h.read; named = h.collected o }
+told_fault text (fault.Type f) o h =
+    record { items = program_items h.program; read = told_read text h.program h.typed.read; named = h.typed.collected.0; typed = h.typed.typed o }
 
 -- ---- texts
 
@@ -186,73 +183,134 @@ abbrev fault_in : TypeFault → Result (List TypedFunction) TypeFault → TextFa
 fault_in d (Ok fs) = fault.Type d
 fault_in d (Err f) = fault.Type f
 
-module _ (law : LinesOrFault) (text : List ℕ) where
-  lines_of : {a b : Result (List Item) ParseFault} (r : IsRead text a) (s : IsRead text b) → IsProgram r.lines b
-  lines_of {a} {b} r s = subst (λ ls. IsProgram ls b) (law.one_list text s.lines r.lines s.lexed r.lexed) s.nested
+abbrev scope_fault_of : ScopeFault → Found → ScopeFault
+scope_fault_of d None = d
+scope_fault_of d (Some f) = f
 
-  programs_same : (items others : List Item) → IsRead text (Ok items) → IsRead text (Ok others) → program_items items ≡ program_items others
+module _ (law : LinesOrFault) (text : List ℕ) where
+  lines_of : {a b : Result (List ProgramItem) ParseFault} (r : Reads text a) (s : Reads text b) → Nest r.lines b
+  lines_of {a} {b} r s = subst (λ ls. Nest ls b) (law.one_list text s.lines r.lines s.lexed r.lexed) s.nested
+
+  programs_same : (items others : List ProgramItem) → Reads text (Ok items) → Reads text (Ok others) → items ≡ others
   programs_same items others r s = one_program_read r.lines others items (lines_of r s) r.nested
 
-  not_lexed : (f : LexFault) (a : Result (List Item) ParseFault) → f ≢ lex.Memory → IsLexed text (Err f) → IsRead text a → ⊥
-  not_lexed f a o h r = law.never_both text r.lines f r.lexed (lex_fault text f o h)
+  not_lexed : (f : LexFault) (a : Result (List ProgramItem) ParseFault) → HasFault text f → Reads text a → ⊥
+  not_lexed f a h r = law.never_both text r.lines f r.lexed h
 
-  not_read : (f : ParseFault) (items : List Item) → f ≢ parse.Memory → IsRead text (Err f) → IsRead text (Ok items) → ⊥
+  not_read : (f : ParseFault) (items : List ProgramItem) → f ≢ parse.Memory → Reads text (Err f) → Reads text (Ok items) → ⊥
   not_read f items o h r = never_both_read r.lines items f o r.nested (lines_of r h)
 
-  found_in : (items : List Item) (n : Result Scope ScopeFault) (r : IsRead text (Ok items)) (h : IsNamed text n) → CollectAnswer (program_items items) n
-  found_in items n r h = subst (λ p. CollectAnswer p n) (programs_same h.program items h.read r) h.collected
+  found_in : (items others : List ProgramItem) (n : Found) → Reads text (Ok items) → Reads text (Ok others) → IsFirstFault others n → IsFirstFault items n
+  found_in items others n r s h = subst (λ p. IsFirstFault p n) (programs_same others items s r) h
 
-  not_named : (f : ScopeFault) (items : List Item) (its : Scope) → f ≢ scope.Memory → IsNamed text (Err f) → IsRead text (Ok items) → CollectAnswer (program_items items) (Ok its) → ⊥
-  not_named f items its o h r c =
-      let g = found_in items (Err f) r h o in
-      let e = one_found (program_items items) None (Some f) c.0 g in cc
+  not_named : (f : ScopeFault) (items : List ProgramItem) → HasNameFault text f → Reads text (Ok items) → IsFirstFault items None → ⊥
+  not_named f items h r n =
+      let e = one_found items None (Some f) n (found_in items h.items (Some f) r h.read h.named) in cc
 
-  typings_same : (items others : List Item) → IsRead text (Ok items) → IsRead text (Ok others)
-      → program_typing (known_of (program_items items)) (program_items items) ≡ program_typing (known_of (program_items others)) (program_items others)
+  typings_same : (items others : List ProgramItem) → Reads text (Ok items) → Reads text (Ok others) → program_typing (known_of items) items ≡ program_typing (known_of others) others
   typings_same items others r s = ap (λ p. program_typing (known_of p) p) (programs_same items others r s)
 
-  type_fault : (f : TypeFault) → f ≢ type.Memory → (h : HasTypeFault text f) → program_typing (known_of (program_items h.program)) (program_items h.program) ≡ Err f
-  type_fault f o h = h.typed.typed o
-
-  read_of : (f : TypeFault) (h : HasTypeFault text f) → IsRead text (Ok h.program)
-  read_of f h = h.typed.read
-
-  one_program_of : (a b : CheckedText) → IsTextOf text a → IsTextOf text b → (program_items a.program ≡ program_items b.program) × (typed_view a.typed ≡ typed_view b.typed)
-  one_program_of a b p q = (
-    programs_same a.program b.program p.typed.read q.typed.read,
-    ap functions_of (sym p.typed.typed ∙ typings_same a.program b.program p.typed.read q.typed.read ∙ q.typed.typed),
+  same_text : (items others : List ProgramItem) (fs gs : List TypedFunction) → IsProgramText text items fs → IsProgramText text others gs → (items ≡ others) × (fs ≡ gs)
+  same_text items others fs gs p q = (
+    programs_same items others p.read q.read,
+    ap functions_of (sym p.typed ∙ typings_same items others p.read q.read ∙ q.typed),
   )
 
-  never_both_of : (a : CheckedText) (f : TextFault) → IsOfText f → IsTextOf text a → IsChecked text (Err f) → ⊥
-  never_both_of a (fault.Lex f) o p q = not_lexed f (Ok a.program) o q p.typed.read
-  never_both_of a (fault.Parse f) o p q = not_read f a.program o q p.typed.read
-  never_both_of a (fault.Scope f) o p q = not_named f a.program a.scope o q p.typed.read p.typed.collected
-  never_both_of a (fault.Type f) o p q =
-      let e = sym p.typed.typed ∙ typings_same a.program q.program p.typed.read (read_of f q) ∙ type_fault f o q in cc
+  not_both : (items : List ProgramItem) (fs : List TypedFunction) (f : TextFault) → IsOfText f → IsProgramText text items fs → IsFaultyText text f → ⊥
+  not_both items fs (fault.Lex f) o p q = not_lexed f (Ok items) q p.read
+  not_both items fs (fault.Parse f) o p q = not_read f items o q p.read
+  not_both items fs (fault.Scope f) o p q = not_named f items q p.read p.named
+  not_both items fs (fault.Type f) o p q = let e = sym p.typed ∙ typings_same items q.items p.read q.read ∙ q.typed in cc
+
+  same_fault : (f g : TextFault) → IsOfText f → IsOfText g → IsFaultyText text f → IsFaultyText text g → f ≡ g
+  same_fault (fault.Lex f) (fault.Lex g) o u p q = ap fault.Lex (law.one_fault text f g p q)
+  same_fault (fault.Lex f) (fault.Parse g) o u p q = absurd (not_lexed f (Err g) p q)
+  same_fault (fault.Lex f) (fault.Scope g) o u p q = absurd (not_lexed f (Ok q.items) p q.read)
+  same_fault (fault.Lex f) (fault.Type g) o u p q = absurd (not_lexed f (Ok q.items) p q.read)
+  same_fault (fault.Parse f) (fault.Lex g) o u p q = absurd (not_lexed g (Err f) q p)
+  same_fault (fault.Parse f) (fault.Parse g) o u p q = ap fault.Parse (one_parse_fault p.lines f g o u p.nested (lines_of p q))
+  same_fault (fault.Parse f) (fault.Scope g) o u p q = absurd (not_read f q.items o p q.read)
+  same_fault (fault.Parse f) (fault.Type g) o u p q = absurd (not_read f q.items o p q.read)
+  same_fault (fault.Scope f) (fault.Lex g) o u p q = absurd (not_lexed g (Ok p.items) q p.read)
+  same_fault (fault.Scope f) (fault.Parse g) o u p q = absurd (not_read g p.items u q p.read)
+  same_fault (fault.Scope f) (fault.Scope g) o u p q =
+      ap (λ x. fault.Scope (scope_fault_of f x)) (one_found p.items (Some f) (Some g) p.named (found_in p.items q.items (Some g) p.read q.read q.named))
+  same_fault (fault.Scope f) (fault.Type g) o u p q = absurd (not_named f q.items p q.read q.named)
+  same_fault (fault.Type f) (fault.Lex g) o u p q = absurd (not_lexed g (Ok p.items) q p.read)
+  same_fault (fault.Type f) (fault.Parse g) o u p q = absurd (not_read g p.items u q p.read)
+  same_fault (fault.Type f) (fault.Scope g) o u p q = absurd (not_named g p.items q p.read p.named)
+  same_fault (fault.Type f) (fault.Type g) o u p q = ap (fault_in f) (sym p.typed ∙ typings_same p.items q.items p.read q.read ∙ q.typed)
+
+  -- ---- scopes
+
+  scopes_same : (program : List ProgramItem) (s t : Scope) → IsScopeOf program s → IsScopeOf program t → SayTheSame s t
+  scopes_same program s t p q = record {
+    imports = λ name. p.imports_are name ∙ sym (q.imports_are name);
+    structs = λ name. p.structs_are name ∙ sym (q.structs_are name);
+    signatures = λ name. p.signatures_are name ∙ sym (q.signatures_are name);
+    annotated = λ line. p.annotated_are line ∙ sym (q.annotated_are line);
+    functions = p.functions_are ∙ sym q.functions_are;
+  }
+
+  one_program_of : (a b : CheckedText) → IsTextOf text a → IsTextOf text b
+      → (program_items a.program ≡ program_items b.program) × (typed_view a.typed ≡ typed_view b.typed) × SayTheSame a.scope b.scope
+  one_program_of a b p q =
+      let e = same_text (program_items a.program) (program_items b.program) (typed_view a.typed) (typed_view b.typed) (told_program text a p) (told_program text b q) in
+      let here : IsScopeOf (program_items b.program) a.scope = subst (λ x. IsScopeOf x a.scope) e.0 p.typed.collected.1 in
+      (e.0, e.1, scopes_same (program_items b.program) a.scope b.scope here q.typed.collected.1)
 
   one_fault_of : (f g : TextFault) → IsOfText f → IsOfText g → IsChecked text (Err f) → IsChecked text (Err g) → f ≡ g
-  one_fault_of (fault.Lex f) (fault.Lex g) o u p q = ap fault.Lex (law.one_fault text f g (lex_fault text f o p) (lex_fault text g u q))
-  one_fault_of (fault.Lex f) (fault.Parse g) o u p q = absurd (not_lexed f (Err g) o p q)
-  one_fault_of (fault.Lex f) (fault.Scope g) o u p q = absurd (not_lexed f (Ok q.program) o p q.read)
-  one_fault_of (fault.Lex f) (fault.Type g) o u p q = absurd (not_lexed f (Ok q.program) o p (read_of g q))
-  one_fault_of (fault.Parse f) (fault.Lex g) o u p q = absurd (not_lexed g (Err f) u q p)
-  one_fault_of (fault.Parse f) (fault.Parse g) o u p q = ap fault.Parse (one_parse_fault p.lines f g o u p.nested (lines_of p q))
-  one_fault_of (fault.Parse f) (fault.Scope g) o u p q = absurd (not_read f q.program o p q.read)
-  one_fault_of (fault.Parse f) (fault.Type g) o u p q = absurd (not_read f q.program o p (read_of g q))
-  one_fault_of (fault.Scope f) (fault.Lex g) o u p q = absurd (not_lexed g (Ok p.program) u q p.read)
-  one_fault_of (fault.Scope f) (fault.Parse g) o u p q = absurd (not_read g p.program u q p.read)
-  one_fault_of (fault.Scope f) (fault.Scope g) o u p q =
-      ap (λ x. fault.Scope (scope_fault_of f x)) (one_found (program_items p.program) (Some f) (Some g) (p.collected o) (found_in p.program (Err g) p.read q u))
-  one_fault_of (fault.Scope f) (fault.Type g) o u p q = absurd (not_named f q.program q.scope o p (read_of g q) q.typed.collected)
-  one_fault_of (fault.Type f) (fault.Lex g) o u p q = absurd (not_lexed g (Ok p.program) u q (read_of f p))
-  one_fault_of (fault.Type f) (fault.Parse g) o u p q = absurd (not_read g p.program u q (read_of f p))
-  one_fault_of (fault.Type f) (fault.Scope g) o u p q = absurd (not_named g p.program p.scope u q (read_of f p) p.typed.collected)
-  one_fault_of (fault.Type f) (fault.Type g) o u p q =
-      ap (fault_in f) (sym (type_fault f o p) ∙ typings_same p.program q.program (read_of f p) (read_of g q) ∙ type_fault g u q)
+  one_fault_of f g o u p q = same_fault f g o u (told_fault text f o p) (told_fault text g u q)
+
+  never_both_of : (a : CheckedText) (f : TextFault) → IsOfText f → IsTextOf text a → IsChecked text (Err f) → ⊥
+  never_both_of a f o p q = not_both (program_items a.program) (typed_view a.typed) f o (told_program text a p) (told_fault text f o q)
+
+  -- ---- one answer at least
+
+  has_program : (items : List ProgramItem) (fs : List TypedFunction) → IsProgramText text items fs → HasProgram text
+  has_program items fs p = record {
+    items = items;
+    functions = fs;
+    is = p;
+    answered = λ a h. same_text (program_items a.program) items (typed_view a.typed) fs (told_program text a h) p;
+    faultless = λ f o h. not_both items fs f o p (told_fault text f o h);
+  }
+
+  has_fault : (f : TextFault) → IsOfText f → IsFaultyText text f → HasFirstFault text
+  has_fault f o p = record {
+    first = f;
+    of_text = o;
+    is = p;
+    answered = λ g u h. same_fault g f u o (told_fault text g u h) p;
+    no_program = λ a h. not_both (program_items a.program) (typed_view a.typed) f o (told_program text a h) p;
+  }
+
+  with_types : (items : List ProgramItem) → Reads text (Ok items) → IsFirstFault items None → (r : Result (List TypedFunction) TypeFault) → program_typing (known_of items) items ≡ r
+      → HasProgram text ⊎ HasFirstFault text
+  with_types items r n (Ok fs) e = inl (has_program items fs (record { read = r; named = n; typed = e }))
+  with_types items r n (Err f) e = inr (has_fault (fault.Type f) (type_faults (known_of items) items f e) (record { items = items; read = r; named = n; typed = e }))
+
+  with_names : (items : List ProgramItem) → Reads text (Ok items) → (n : Found) → IsFirstFault items n → n ≢ Some scope.Memory → HasProgram text ⊎ HasFirstFault text
+  with_names items r None h o = with_types items r h (program_typing (known_of items) items) refl
+  with_names items r (Some f) h o = inr (has_fault (fault.Scope f) (λ e. o (ap (λ x. Some x) e)) (record { items = items; read = r; named = h }))
+
+  with_lines : (ls : List LogicalLine) → HasLines text ls → ((items : List ProgramItem) × Nest ls (Ok items)) ⊎ ((f : ParseFault) × (f ≢ parse.Memory) × IsProgram ls (Err f))
+      → HasProgram text ⊎ HasFirstFault text
+  with_lines ls h (inl p) =
+      let n = names_have_one_answer.always_one p.0 in
+      with_names p.0 (record { lines = ls; lexed = h; nested = p.1 }) n.0 n.1 n.2
+  with_lines ls h (inr q) = inr (has_fault (fault.Parse q.0) q.1 (record { lines = ls; lexed = h; nested = q.2 }))
+
+  always_one_of : HasProgram text ⊎ HasFirstFault text
+  always_one_of = go (law.always_one text) where
+    go : ((ls : List LogicalLine) × HasLines text ls) ⊎ ((f : LexFault) × HasFault text f) → HasProgram text ⊎ HasFirstFault text
+    go (inl p) = with_lines p.0 p.1 (program_or_fault p.0)
+    go (inr q) = inr (has_fault (fault.Lex q.0) (not_memory q.1) q.1)
 
 pub texts_have_one_answer : LinesOrFault → TextsHaveOneAnswer
 texts_have_one_answer law = record {
   one_program = one_program_of law;
   one_fault = one_fault_of law;
   never_both = never_both_of law;
+  always_one = always_one_of law;
 }

@@ -4,8 +4,8 @@ use Rattle.gp_lex.specs.declared.line.LogicalLine.{LogicalLine}
 use Rattle.gp_lex.specs.Lines.{IsLexed}
 use Rattle.gp_tree.specs.declared.program.Item.{Item}
 use Rattle.gp_tree.specs.Program.{program_items}
-use Rattle.gp_nest.specs.declared.parse_fault.ParseFault.{ParseFault}
-use Rattle.gp_nest.specs.Programs.{IsProgram}
+use Rattle.gp_parse.specs.declared.parse_fault.ParseFault.{ParseFault}
+use Rattle.gp_parse.specs.Programs.{IsProgram}
 use Rattle.gp_scope.specs.declared.fault.ScopeFault.{ScopeFault}
 use Rattle.gp_scope.specs.declared.scope.Scope.{Scope}
 use Rattle.gp_scope.specs.Collected.{CollectAnswer}

@@ -4,8 +4,9 @@ ghost use Rattle.std.specs.Prelude.{◌≤◌, length};
 ghost use Rattle.gp_front.specs.Checked.{IsChecked};
 
 use crate::fault::TextFault;
+use gp_base::SOURCE_LIMIT;
 use gp_lex::lines;
-use gp_nest::program;
+use gp_parse::program;
 use gp_scope::{Scope, collect};
 use gp_tree::Program;
 use gp_typing::{Typed, check};
@@ -28,7 +29,7 @@ pub struct CheckedText {
 /// types (`Type`). Each goes over the whole text before the next begins, so a fault of an earlier phase comes first also
 /// where it stands further down. Within `Parse` a line without a form comes before a fault of nesting.
 pub fn check_text(alloc: Global, text: &[u8]) -> Result<CheckedText, TextFault>
-    requires { length text.now ≤ 131072 }
+    requires { length text.now ≤ SOURCE_LIMIT }
     ensures { IsChecked text.now result }
 {
     let lines = match lines(alloc, text) {

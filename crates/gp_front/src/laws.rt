@@ -4,7 +4,7 @@ ghost use Rattle.gp_front.specs.OneAnswer.{TextsHaveOneAnswer};
 
 use gp_lex::laws::lines_or_fault;
 
-/// A source text has at most one program with its types, or at most one first fault, and never both.
+/// A source text has one program with its scope and its types, or one first fault, and never both.
 pub fn one_answer()
     ensures { TextsHaveOneAnswer }
 {

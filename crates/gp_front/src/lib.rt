@@ -8,6 +8,3 @@ pub mod laws;
 
 pub use checked::{CheckedText, check_text};
 pub use fault::TextFault;
-
-#[cfg(test)]
-mod tests;

@@ -15,7 +15,7 @@ use Rattle.gp_lex.specs.Chars.{Text, continues_name, is_digit, is_quote, ends_li
 use Rattle.gp_lex.specs.Tokens.{string_at, Lexeme, word, digits, quoted, sign, lexeme_of, token_of}
 use Rattle.gp_lex.specs.Pieces as g
 use Rattle.gp_lex.specs.Pieces.{Piece, behind, line_no, is_tabbed, fits, splits_quotes, IsAt, comment_len, is_gap, IsPiece, Spelled, has_backslash, Unread, Faulty}
-use Rattle.gp_lex.specs.Reading.{◌>>=◌, symbol_at, lexeme_at, as_quoted, as_sign, Next, line_end_at, gap_at, fitted, read_string, read_sign, read_token, token_piece, piece_at}
+use Rattle.gp_lex.specs.code.Reading.{◌>>=◌, symbol_at, lexeme_at, as_quoted, as_sign, Next, line_end_at, gap_at, fitted, read_string, read_sign, read_token, token_piece, piece_at}
 use Rattle.gp_lex.proofs.Fronts.{yes, no, chosen}
 use Rattle.gp_lex.proofs.Symbols.{some, some_is, some_none}
 use Rattle.gp_lex.proofs.Classes.{no_space, no_tab, no_hash, no_feed, no_return, no_quotes}

@@ -10,7 +10,7 @@ use Rattle.gp_lex.specs.declared.line.LogicalLine.{LogicalLine}
 use Rattle.gp_lex.specs.Chars.{Text, line_feeds}
 use Rattle.gp_lex.specs.Pieces.{Piece, at_start, line_no, Spelled, Faulty}
 use Rattle.gp_lex.specs.Lines.{lines_from, without_mark, source, HasLines, HasFault, not_utf8, in_text, IsLexed, PiecesAreOne, LinesOrFault}
-use Rattle.gp_lex.specs.Reading.{Gives, pieces_from, lines_of}
+use Rattle.gp_lex.specs.code.Reading.{Gives, pieces_from, lines_of}
 use Rattle.gp_lex.proofs.Exact.{bind_ok, here, later, bind_err, ok_is}
 use Rattle.gp_lex.proofs.Whole.{pieces_spelled, pieces_faulty, cuts, refuses, joined}
 use Rattle.gp_lex.proofs.Turns.{Total}

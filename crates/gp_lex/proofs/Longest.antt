@@ -6,7 +6,7 @@ use Rattle.gp_lex.specs.declared.token.Symbol.{Symbol}
 use Rattle.gp_lex.specs.Chars.{Text, starts_name, continues_name, is_digit, is_quote, every, first_passes, run}
 use Rattle.gp_lex.specs.Tokens.{symbol_of, string_at, Lexeme, word, digits, quoted, sign, as_string, lexeme_of}
 use Rattle.gp_lex.specs.Pieces.{splits_quotes, IsAt}
-use Rattle.gp_lex.specs.Reading.{symbol_at, as_sign, as_quoted, lexeme_at}
+use Rattle.gp_lex.specs.code.Reading.{symbol_at, as_sign, as_quoted, lexeme_at}
 use Rattle.gp_lex.proofs.Fronts.{Runs, runs, every_front}
 use Rattle.gp_lex.proofs.Symbols.{some, some_is, some_none, symbol_marks, no_symbol_at}
 use Rattle.gp_lex.proofs.Strings.{string_extends, StringCut, string_cut}

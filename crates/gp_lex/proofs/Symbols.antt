@@ -3,7 +3,7 @@ use Rattle.std.proofs.Common.{◌≡◌, ℕ, ◌<◌, [], ◌∷◌, ◌++◌, 
 use Rattle.gp_lex.specs.declared.token.Symbol.{Symbol}
 use Rattle.gp_lex.specs.Chars.{Text}
 use Rattle.gp_lex.specs.Tokens.{symbol_of_one, symbol_of_two, symbol_of_three, symbol_of}
-use Rattle.gp_lex.specs.Reading.{or_else, with_rest, symbol_at}
+use Rattle.gp_lex.specs.code.Reading.{or_else, with_rest, symbol_at}
 
 abbrev pub some : {A : Type 0} → A → Option A
 some x = Some x

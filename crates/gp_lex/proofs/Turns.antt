@@ -13,7 +13,7 @@ use Rattle.gp_lex.specs.Chars.{Text, line_feeds}
 use Rattle.gp_lex.specs.Pieces as g
 use Rattle.gp_lex.specs.Pieces.{Piece, at_start, behind, indent_of, with_space, with_tab, new_margin, IsPiece}
 use Rattle.gp_lex.specs.Lines.{begun_behind, ended_by, lines_from}
-use Rattle.gp_lex.specs.Reading.{◌>>=◌, Fails, Gives, piece_at, at_end, front, pieces_from, with_lines, lines_of}
+use Rattle.gp_lex.specs.code.Reading.{◌>>=◌, Fails, Gives, piece_at, at_end, front, pieces_from, with_lines, lines_of}
 use Rattle.gp_lex.proofs.Exact.{piece_reads}
 use Rattle.gp_lex.proofs.Whole.{turn, turn_fails, nothing_left, reads_front, reads_less}
 

@@ -13,7 +13,7 @@ use Rattle.gp_lex.specs.Chars.{Text, is_quote}
 use Rattle.gp_lex.specs.Tokens.{string_at, Lexeme, lexeme_of, token_of}
 use Rattle.gp_lex.specs.Pieces as g
 use Rattle.gp_lex.specs.Pieces.{Piece, behind, line_no, is_tabbed, fits, IsAt, comment_len, is_gap, IsPiece, Spelled, has_backslash, Unread, Faulty}
-use Rattle.gp_lex.specs.Reading.{◌>>=◌, lexeme_at, as_quoted, Next, line_end_at, gap_at, fitted, piece_at, at_end, front, pieces_from}
+use Rattle.gp_lex.specs.code.Reading.{◌>>=◌, lexeme_at, as_quoted, Next, line_end_at, gap_at, fitted, piece_at, at_end, front, pieces_from}
 use Rattle.gp_lex.proofs.Symbols.{some_none}
 use Rattle.gp_lex.proofs.Longest.{lexeme_taken, lexeme_found, at_string}
 use Rattle.gp_lex.proofs.Exact.{broken, as_piece, bind_ok, here, later, bind_err, ok_is, Reads, piece_reads, piece_unread, at_gap, at_no_gap, at_tab, at_no_tab, no_gap, lexeme_gap, quote_gap}

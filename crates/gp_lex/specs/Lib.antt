@@ -2,4 +2,4 @@ pub mod Chars
 pub mod Tokens
 pub mod Pieces
 pub mod Lines
-pub mod Reading
+pub mod code

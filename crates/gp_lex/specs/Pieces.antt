@@ -1,6 +1,7 @@
 -- Which pieces spell a text, and where it can't be read on.
 use Rattle.std.specs.Prelude.{◌≡◌, ℕ, ◌+◌, ◌<◌, Bool, true, false, ◌&&◌, ◌||◌, not, ◌==◌, List, [], ◌∷◌, ◌++◌, length, Option, Some, None, Ok, Err, if◌then◌else◌}
 use Rattle.gp_base.specs.declared.name.LineNo.{LineNo}
+use Rattle.gp_base.specs.Stacks.{top_of, below_top}
 use Rattle.gp_lex.specs.declared.fault.LexFault.{LexFault}
 use Rattle.gp_lex.specs.declared.fault.LexFault.TheVariants.{TabIndent, BadChar, Unclosed}
 use Rattle.gp_lex.specs.declared.token.Symbol.{Symbol}
@@ -44,21 +45,12 @@ abbrev pub new_margin : List Bracket → Option Margin → Option Margin
 new_margin [] margin = Some no_margin
 new_margin (b ∷ bs) margin = margin
 
--- the innermost open bracket, and the others
-abbrev pub first_bracket : List Bracket → Option Bracket
-first_bracket [] = None
-first_bracket (b ∷ bs) = Some b
-
-abbrev pub outer_brackets : List Bracket → List Bracket
-outer_brackets [] = []
-outer_brackets (b ∷ bs) = bs
-
 -- the open brackets behind a token, which closes one only where it matches
 abbrev pub brackets_behind : ℕ → Token → List Bracket → List Bracket
 brackets_behind line (t.Symbol LeftParen) open_ = record { symbol = LeftParen; line = line_no line } ∷ open_
 brackets_behind line (t.Symbol LeftBracket) open_ = record { symbol = LeftBracket; line = line_no line } ∷ open_
-brackets_behind line (t.Symbol RightParen) open_ = outer_brackets open_
-brackets_behind line (t.Symbol RightBracket) open_ = outer_brackets open_
+brackets_behind line (t.Symbol RightParen) open_ = below_top open_
+brackets_behind line (t.Symbol RightBracket) open_ = below_top open_
 brackets_behind line x open_ = open_
 
 -- one blank more
@@ -98,8 +90,8 @@ innermost_passes passes (Some b) = passes b.symbol
 
 -- whether a token may stand behind these open brackets: a closing bracket matches the innermost one
 abbrev pub fits : Token → List Bracket → Bool
-fits (t.Symbol RightParen) open_ = innermost_passes is_left_paren (first_bracket open_)
-fits (t.Symbol RightBracket) open_ = innermost_passes is_left_bracket (first_bracket open_)
+fits (t.Symbol RightParen) open_ = innermost_passes is_left_paren (top_of open_)
+fits (t.Symbol RightBracket) open_ = innermost_passes is_left_bracket (top_of open_)
 fits _ open_ = true
 
 -- ---- pieces

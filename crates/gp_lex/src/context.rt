@@ -3,15 +3,14 @@
 ghost use Rattle.std.specs.Prelude.{◌≡◌, ◌+◌, ◌<◌, ◌≤◌, ◌^◌, [], ◌∷◌, length, Some, OnOk};
 ghost use Rattle.gp_lex.specs.Chars as chars;
 ghost use Rattle.gp_lex.specs.Pieces as spec;
-ghost use Rattle.gp_lex.specs.Pieces.{first_bracket, outer_brackets, line_no, indent_of, with_space, with_tab, new_margin, brackets_behind};
+ghost use Rattle.gp_lex.specs.Pieces.{line_no, indent_of, with_space, with_tab, new_margin, brackets_behind};
 
 use crate::token::{Symbol, Token};
-use gp_base::LineNo;
+use gp_base::{LineNo, Stack};
 use std::alloc::{AllocError, Global};
-use std::marker::Model;
 
 /// What a piece of a text is.
-#[derive(Debug, Drop)]
+#[derive(Drop)]
 pub enum PieceKind {
     /// A space between tokens.
     Space,
@@ -26,7 +25,7 @@ pub enum PieceKind {
 }
 
 /// A bracket that is open.
-#[derive(Clone, Copy, Debug, PartialEq, Eq)]
+#[derive(Clone, Copy)]
 pub struct Bracket {
     /// The opening bracket.
     pub symbol: Symbol,
@@ -34,56 +33,8 @@ pub struct Bracket {
     pub line: LineNo,
 }
 
-/// The brackets that are open. A contract sees them as a list, the innermost first.
-#[derive(Debug, Drop)]
-pub struct Brackets {
-    items: Vec<Bracket>,
-}
-
-impl Model for Brackets {
-    ghost use Rattle.std.specs.Prelude.{List, reverse};
-    ghost use Rattle.gp_lex.specs.declared.context.Bracket.{Bracket};
-
-    ghost Value = { List Bracket };
-
-    ghost view = { λ brackets. reverse brackets.items.items };
-}
-
-impl Brackets {
-    /// No brackets.
-    pub fn new(alloc: Global) -> Brackets
-        ensures { result ≡ [] }
-    {
-        Brackets {
-            items: Vec::new(alloc),
-        }
-    }
-
-    /// The innermost one.
-    pub fn innermost(&self) -> Option<Bracket>
-        ensures { result ≡ first_bracket self.now }
-    {
-        self.items.last().copied()
-    }
-
-    /// Closes the innermost one.
-    pub fn close(&mut self)
-        ensures { self.new ≡ outer_brackets self.old }
-    {
-        self.items.pop();
-    }
-
-    /// Opens one.
-    pub fn open(&mut self, bracket: Bracket) -> Result<(), AllocError>
-        ensures { OnOk result (self.new ≡ bracket ∷ self.old) }
-    {
-        self.items.push(bracket)?;
-        Ok(())
-    }
-}
-
 /// The blanks that stand before the first token of a logical line.
-#[derive(Clone, Copy, Debug, PartialEq, Eq)]
+#[derive(Clone, Copy)]
 pub struct Margin {
     /// How many spaces.
     pub spaces: u32,
@@ -92,12 +43,12 @@ pub struct Margin {
 }
 
 /// What stands before a position.
-#[derive(Debug, Drop)]
+#[derive(Drop)]
 pub struct Context {
     /// The physical line, counted from 1.
     pub line: u32,
-    /// The brackets that are open.
-    pub brackets: Brackets,
+    /// The brackets that are open, the innermost on top.
+    pub brackets: Stack<Bracket>,
     /// Where the logical line has no token yet, the blanks on the physical line before the position.
     pub margin: Option<Margin>,
 }
@@ -117,7 +68,7 @@ impl Context {
     {
         Context {
             line: 1,
-            brackets: Brackets::new(alloc),
+            brackets: Stack::new(alloc),
             margin: Some(Margin {
                 spaces: 0,
                 tabbed: false,
@@ -166,7 +117,7 @@ impl Context {
         ensures { self.new ≡ record self.old { line = self.old.line + 1; margin = new_margin self.old.brackets self.old.margin } }
     {
         self.line += 1;
-        if self.brackets.innermost().is_none() {
+        if self.brackets.is_empty() {
             self.margin = Some(Margin {
                 spaces: 0,
                 tabbed: false,
@@ -180,16 +131,16 @@ impl Context {
     {
         let line = LineNo(self.line);
         match token {
-            Token::Symbol(Symbol::LeftParen) => self.brackets.open(Bracket {
+            Token::Symbol(Symbol::LeftParen) => self.brackets.push(Bracket {
                 symbol: Symbol::LeftParen,
                 line,
             }),
-            Token::Symbol(Symbol::LeftBracket) => self.brackets.open(Bracket {
+            Token::Symbol(Symbol::LeftBracket) => self.brackets.push(Bracket {
                 symbol: Symbol::LeftBracket,
                 line,
             }),
             Token::Symbol(Symbol::RightParen | Symbol::RightBracket) => {
-                self.brackets.close();
+                self.brackets.take_back();
                 Ok(())
             }
             _ => Ok(()),

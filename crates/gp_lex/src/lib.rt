@@ -18,6 +18,3 @@ pub use fault::LexFault;
 pub use line::{Lines, LogicalLine};
 pub use reader::lines;
 pub use token::{Keyword, Symbol, Token, Tokens};
-
-#[cfg(test)]
-mod tests;

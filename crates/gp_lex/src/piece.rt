@@ -1,21 +1,22 @@
 //! The piece at the front of a text.
 
 ghost use Rattle.std.specs.Prelude.{◌≡◌, IsTrue, ◌≤◌, length, true};
+ghost use Rattle.gp_base.specs.Stacks.{top_of};
 ghost use Rattle.gp_lex.specs.Chars.{is_quote};
 ghost use Rattle.gp_lex.specs.Pieces as pieces;
 ghost use Rattle.gp_lex.specs.Pieces.{line_no};
-ghost use Rattle.gp_lex.specs.Reading as spec;
-ghost use Rattle.gp_lex.specs.Reading.{Finds, Gives};
+ghost use Rattle.gp_lex.specs.code.Reading as spec;
+ghost use Rattle.gp_lex.specs.code.Reading.{Finds, Gives};
 ghost use Rattle.gp_lex.specs.Tokens.{string_at};
 
 use crate::character::{digit_run, ends_line, is_digit, is_quote, name_run, starts_name};
-use crate::context::{Bracket, Brackets, Context, PieceKind};
+use crate::context::{Bracket, Context, PieceKind};
 use crate::fault::LexFault;
 use crate::quoted::{has_backslash, string_at};
 use crate::symbol::symbol_at;
 use crate::token::{Symbol, Token};
 use crate::value::{number_token, text_bytes, word_token};
-use gp_base::LineNo;
+use gp_base::{LineNo, Stack};
 use std::alloc::Global;
 
 // The string that begins with this quote, with the text behind the quote, and the text behind it.
@@ -66,7 +67,7 @@ fn sign_at(line: LineNo, text: &[char]) -> Result<(Token, &[char]), LexFault>
 }
 
 // The token at the front, and the text behind it.
-#[tactic(auto, unfolding(crate::specs::Reading::read_token))]
+#[tactic(auto, unfolding(crate::specs::code::Reading::read_token))]
 fn read_token(alloc: Global, line: LineNo, text: &[char]) -> Result<(Token, &[char]), LexFault>
     ensures { Gives (λ x. (x.0, x.1.now)) result (spec.read_token line text.now) }
 {
@@ -99,7 +100,7 @@ fn comment_len(text: &[char]) -> usize
 }
 
 // The line end at the front, and the text behind it.
-#[tactic(auto, unfolding(crate::specs::Reading::line_end_at))]
+#[tactic(auto, unfolding(crate::specs::code::Reading::line_end_at))]
 fn line_end_at(text: &[char]) -> Option<(PieceKind, &[char])>
     ensures { Finds (λ x. (x.0, x.1.now)) result (spec.line_end_at text.now) }
 {
@@ -125,7 +126,7 @@ fn line_end_at(text: &[char]) -> Option<(PieceKind, &[char])>
 }
 
 // The blank, comment or line end at the front, and the text behind it.
-#[tactic(auto, unfolding(crate::specs::Reading::gap_at))]
+#[tactic(auto, unfolding(crate::specs::code::Reading::gap_at))]
 fn gap_at(text: &[char]) -> Option<(PieceKind, &[char])>
     ensures { Finds (λ x. (x.0, x.1.now)) result (spec.gap_at text.now) }
 {
@@ -146,27 +147,27 @@ fn gap_at(text: &[char]) -> Option<(PieceKind, &[char])>
 }
 
 // Whether the innermost bracket that is open is a parenthesis.
-fn in_paren(brackets: &Brackets) -> bool
-    ensures { result ≡ pieces.innermost_passes pieces.is_left_paren (pieces.first_bracket brackets.now) }
+fn in_paren(brackets: &Stack<Bracket>) -> bool
+    ensures { result ≡ pieces.innermost_passes pieces.is_left_paren (top_of brackets.now) }
 {
-    match brackets.innermost() {
+    match brackets.top() {
         Some(bracket) => matches!(bracket.symbol, Symbol::LeftParen),
         None => false,
     }
 }
 
 // Whether it is a square bracket.
-fn in_bracket(brackets: &Brackets) -> bool
-    ensures { result ≡ pieces.innermost_passes pieces.is_left_bracket (pieces.first_bracket brackets.now) }
+fn in_bracket(brackets: &Stack<Bracket>) -> bool
+    ensures { result ≡ pieces.innermost_passes pieces.is_left_bracket (top_of brackets.now) }
 {
-    match brackets.innermost() {
+    match brackets.top() {
         Some(bracket) => matches!(bracket.symbol, Symbol::LeftBracket),
         None => false,
     }
 }
 
 // Whether a token may stand behind these open brackets.
-fn fits(token: &Token, brackets: &Brackets) -> bool
+fn fits(token: &Token, brackets: &Stack<Bracket>) -> bool
     ensures { result ≡ pieces.fits token.now brackets.now }
 {
     match token {
@@ -187,7 +188,7 @@ fn is_tabbed(at: &Context) -> bool
 }
 
 // The token at the front as a piece, and the text behind it.
-#[tactic(auto, unfolding(crate::specs::Reading::token_piece))]
+#[tactic(auto, unfolding(crate::specs::code::Reading::token_piece))]
 fn token_piece<'t>(
     alloc: Global,
     at: &Context,
@@ -208,7 +209,7 @@ fn token_piece<'t>(
 
 /// The piece at the front of a text behind this position, and the text behind the piece; or why nothing can be
 /// read there.
-#[tactic(auto, unfolding(crate::specs::Reading::piece_at))]
+#[tactic(auto, unfolding(crate::specs::code::Reading::piece_at))]
 pub fn piece_at<'t>(
     alloc: Global,
     at: &Context,

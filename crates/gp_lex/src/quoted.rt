@@ -3,7 +3,7 @@
 ghost use Rattle.std.specs.Prelude.{◌≡◌, IfSome, ◌+◌, ◌≤◌, length};
 ghost use Rattle.gp_lex.specs.Chars.{run, is_plain};
 ghost use Rattle.gp_lex.specs.Pieces as pieces;
-ghost use Rattle.gp_lex.specs.Reading.{Finds};
+ghost use Rattle.gp_lex.specs.code.Reading.{Finds};
 ghost use Rattle.gp_lex.specs.Tokens as spec;
 
 use crate::character::plain_run;

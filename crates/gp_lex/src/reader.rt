@@ -5,15 +5,15 @@ ghost use Rattle.gp_lex.specs.Chars.{line_feeds};
 ghost use Rattle.gp_lex.specs.Pieces.{behind, indent_of, line_no};
 ghost use Rattle.gp_lex.specs.Lines as spec;
 ghost use Rattle.gp_lex.specs.Lines.{IsLexed, begun_behind, ended_by, finished};
-ghost use Rattle.gp_lex.specs.Reading as reading;
-ghost use Rattle.gp_lex.specs.Reading.{Gives};
+ghost use Rattle.gp_lex.specs.code.Reading as reading;
+ghost use Rattle.gp_lex.specs.code.Reading.{Gives};
 
 use crate::context::{Context, PieceKind};
 use crate::fault::LexFault;
 use crate::line::{Lines, LogicalLine};
 use crate::piece::piece_at;
 use crate::token::{Token, Tokens};
-use gp_base::LineNo;
+use gp_base::{LineNo, SOURCE_LIMIT};
 use std::alloc::{AllocError, Global};
 
 // The line that has begun, with one token more; a first token gives it its number and its indentation.
@@ -60,7 +60,7 @@ fn pass_line_end(
     ensures found { OnOk result (found.new ≡ found.old ++ ended_by at.old begun PieceKind.LineEnd) }
 {
     at.pass_line_end();
-    if at.brackets.innermost().is_some() {
+    if at.brackets.top().is_some() {
         return Ok(begun);
     }
     finish(found, begun)?;
@@ -119,7 +119,7 @@ fn pass(
 fn at_end(at: &Context, mut found: Lines, begun: Option<LogicalLine>) -> Result<Lines, LexFault>
     ensures { Gives (λ ls. ls) result (reading.with_lines found at.now begun (reading.at_end at.now.brackets)) }
 {
-    match at.brackets.innermost() {
+    match at.brackets.top() {
         Some(bracket) => Err(LexFault::Unclosed(bracket.line)),
         None => {
             finish(&mut found, begun)?;
@@ -130,7 +130,7 @@ fn at_end(at: &Context, mut found: Lines, begun: Option<LogicalLine>) -> Result<
 
 // The lines of characters.
 fn lines_of(alloc: Global, text: &[char]) -> Result<Lines, LexFault>
-    requires { length text.now ≤ 131072 }
+    requires { length text.now ≤ SOURCE_LIMIT }
     ensures { Gives (λ ls. ls) result (reading.lines_of text.now) }
 {
     let mut at = Context::new(alloc);
@@ -168,7 +168,7 @@ fn without_mark(text: &[char]) -> &[char]
 
 // The physical line behind these bytes.
 fn line_behind(bytes: &[u8]) -> LineNo
-    requires { length bytes.now ≤ 131072 }
+    requires { length bytes.now ≤ SOURCE_LIMIT }
     ensures { result ≡ line_no (line_feeds bytes.now + 1) }
 {
     LineNo(bytes.iter().filter(|b| **b == b'\n').count() as u32 + 1)
@@ -178,7 +178,7 @@ fn line_behind(bytes: &[u8]) -> LineNo
 /// reference in the profile of docs/LANGUAGE.md; or its first fault by position, where bytes that aren't UTF-8
 /// come first. Takes time in proportion to the text.
 pub fn lines(alloc: Global, text: &[u8]) -> Result<Lines, LexFault>
-    requires { length text.now ≤ 131072 }
+    requires { length text.now ≤ SOURCE_LIMIT }
     ensures { IsLexed text.now result }
 {
     let decoded = match str::from_utf8(text) {

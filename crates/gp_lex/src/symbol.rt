@@ -2,8 +2,8 @@
 
 ghost use Rattle.std.specs.Prelude.{◌≡◌};
 ghost use Rattle.gp_lex.specs.Tokens as spec;
-ghost use Rattle.gp_lex.specs.Reading as reading;
-ghost use Rattle.gp_lex.specs.Reading.{Finds};
+ghost use Rattle.gp_lex.specs.code.Reading as reading;
+ghost use Rattle.gp_lex.specs.code.Reading.{Finds};
 
 use crate::token::Symbol;
 
@@ -61,7 +61,7 @@ fn symbol_of_three(b: char, c: char, d: char) -> Option<Symbol>
 }
 
 /// The longest symbol at the front, and the text behind it.
-#[tactic(auto, unfolding(crate::specs::Reading::symbol_at))]
+#[tactic(auto, unfolding(crate::specs::code::Reading::symbol_at))]
 pub fn symbol_at(text: &[char]) -> Option<(Symbol, &[char])>
     ensures { Finds (λ x. (x.0, x.1.now)) result (reading.symbol_at text.now) }
 {

@@ -4,7 +4,7 @@ ghost use Rattle.std.specs.Prelude.{◌≡◌, ◌-◌, string_bytes, ◌<◌, �
 ghost use Rattle.std.specs.List.{list_all};
 ghost use Rattle.unicode_normalization.specs.Forms.{Nfkc, is_in_form};
 ghost use Rattle.gp_lex.specs.Tokens as spec;
-ghost use Rattle.gp_lex.specs.Reading.{Gives};
+ghost use Rattle.gp_lex.specs.code.Reading.{Gives};
 
 use crate::character::continues_name;
 use crate::fault::LexFault;

@@ -1,11 +1,11 @@
 -- One more line, one more node and two more links.
 use Rattle.std.proofs.Common.{◌≡◌, ℕ, zero, suc, ◌+◌, ◌<◌, ◌≤◌, List, [], ◌∷◌, ◌++◌, length, map, take, get_or, refl, sym, ap, subst, ◌∙◌, arith, length-append}
 use Rattle.std.proofs.lemmas.List.{take_more, length-take-le, take_all}
-use Rattle.gp_parse.specs.declared.thin_text.ThinLine.{ThinLine}
-use Rattle.gp_parse.specs.declared.thin_text.ThinLine.TheVariants as line
+use Rattle.gp_lower.specs.declared.thin_text.ThinLine.{ThinLine}
+use Rattle.gp_lower.specs.declared.thin_text.ThinLine.TheVariants as line
 use Rattle.hg_graph.specs.Graph.{Node, Link, Ports, Order, Graph}
 use Rattle.hg_graph.specs.Thin.{ThinGate, H, X, gate_op, in_main, chain, thin_graph}
-use Rattle.gp_lower.specs.Growing.{grown}
+use Rattle.gp_lower.specs.code.Growing.{grown}
 use Rattle.gp_lower.specs.Thin.{line_op, complete_lines, AreComplete}
 
 -- the two links from one node to another

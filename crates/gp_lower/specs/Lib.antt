@@ -1,2 +1,3 @@
-pub mod Growing
 pub mod Thin
+pub mod ThinText
+pub mod code

@@ -2,8 +2,8 @@
 use Rattle.std.specs.Prelude.{◌≡◌, ℕ, List, [], ◌∷◌, ◌++◌, ◌+◌, length, map, drop}
 use Rattle.gp_base.specs.Run.{Returned}
 use Rattle.gp_base.specs.World.{World}
-use Rattle.gp_parse.specs.declared.thin_text.ThinLine.{ThinLine}
-use Rattle.gp_parse.specs.declared.thin_text.ThinLine.TheVariants as line
+use Rattle.gp_lower.specs.declared.thin_text.ThinLine.{ThinLine}
+use Rattle.gp_lower.specs.declared.thin_text.ThinLine.TheVariants as line
 use Rattle.hg_ops.specs.Op as op
 use Rattle.hg_graph.specs.Graph.{Graph}
 use Rattle.hg_graph.specs.Run.{run_function}

@@ -1,18 +1,15 @@
 //! Lowering of thin texts: one straight function on one qubit.
 
 ghost use Rattle.std.specs.Prelude.{◌≡◌, ◌<◌, ℕ, List, [], ◌∷◌, ◌++◌, length, IfOk, OnOk};
-ghost use Rattle.gp_lower.specs.Growing.{grown};
+ghost use Rattle.gp_lower.specs.code.Growing.{grown};
 ghost use Rattle.gp_lower.specs.Thin.{AreComplete, RunsGates, complete_lines, line_op};
 ghost use Rattle.hg_graph.specs.Graph.{Ports, Order};
 ghost use Rattle.hg_graph.specs.Rules.{InputsLinkedOnce, LinearOutputsLinkedOnce};
 ghost use Rattle.hg_ops.specs.OpView.{op_view};
 ghost use Rattle.hg_graph.specs.Thin.{ThinGate, in_main, thin_graph};
 
-#[cfg(test)]
-mod tests;
-
+use crate::thin_text::{ThinLine, ThinLines};
 use gp_base::Name;
-use gp_parse::{ThinLine, ThinLines};
 use hg_graph::{Graph, NodeId, Port};
 use hg_ops::{OpKind, Row};
 use std::alloc::{AllocError, Global};

@@ -2,7 +2,7 @@
 use Rattle.std.proofs.Common.{◌≡◌, ℕ, zero, suc, ◌<◌, ◌≤◌, ◌+◌, add-one, List, [], ◌∷◌, get_or, drop, length, refl, sym, ap, ◌∙◌, if◌then◌else◌, arith}
 use Rattle.std.proofs.lemmas.Bool.{eq-eqb}
 use Rattle.gp_base.specs.Run.{Returned, Stopped, Stop, Stuck, stop, go_on}
-use Rattle.gp_environment.specs.Environment.{Names}
+use Rattle.gp_locals.specs.Environment.{Names}
 use Rattle.gp_tree.specs.declared.place.Place.{Place}
 use Rattle.gp_meaning.specs.State.{State, assign_place, assign_each, assign_parts}
 use Rattle.gp_meaning.specs.Value.{Value, values_of, listed}

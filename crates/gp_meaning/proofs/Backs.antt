@@ -1,7 +1,7 @@
 -- Final values that go back one after another.
 use Rattle.std.proofs.Common.{◌≡◌, ℕ, zero, suc, ◌<◌, ◌≤◌, ◌+◌, add-one, List, [], ◌∷◌, Option, Some, None, get_or, drop, length, refl, sym, ap, ◌∙◌, arith}
 use Rattle.gp_base.specs.Run.{Out, Returned, go_on}
-use Rattle.gp_environment.specs.Environment.{Names}
+use Rattle.gp_locals.specs.Environment.{Names}
 use Rattle.gp_tree.specs.Expression.{Expression, expressions_of}
 use Rattle.gp_meaning.specs.State.{State}
 use Rattle.gp_meaning.specs.Value.{Value}

@@ -4,10 +4,11 @@ use Rattle.std.proofs.lemmas.Bool.{eq-eqb, ne_eqb, ltb-true, ltb-false}
 use Rattle.std.proofs.lemmas.List.{length-map, get_or-map, map-append, drop_all}
 use Rattle.std.specs.Prelude.{All}
 use Rattle.std.specs.declared.alloc.Global.{Global}
-use Rattle.std.specs.declared.vec.Vec.{Vec}
+use Rattle.std.specs.declared.rc.RcSlice.{RcSlice}
+use Rattle.std.specs.Rc.{rc_slice_items}
 use Rattle.gp_base.specs.Tag.{IsTag, IsPrintable}
-use Rattle.gp_callee.specs.Callee.{Callee, takes_tag}
-use Rattle.gp_callee.specs.Tag.{is_tag, is_tag_character, all_tag_characters}
+use Rattle.gp_locals.specs.Callee.{Callee, takes_tag}
+use Rattle.gp_locals.specs.Tag.{is_tag, is_tag_character, all_tag_characters}
 use Rattle.gp_types.specs.Types.{Field, fields_of}
 use Rattle.gp_types.specs.View.{ty_view, field_view}
 use Rattle.gp_types.specs.declared.ty.Ty as declared_ty
@@ -32,9 +33,9 @@ pub expressions_count : (es : List Expression) → length es ≡ spec.count (exp
 expressions_count [] = refl
 expressions_count (e ∷ es) = ap suc (expressions_count es)
 
-pub struct_count : (ty : declared_ty.Ty) (name : List ℕ) (fields : Vec declared_field.Field Global) → ty ≡ variants.Struct name fields → length fields.items ≡ spec.part_count (ty_view ty)
+pub struct_count : (ty : declared_ty.Ty) (name : List ℕ) (fields : RcSlice declared_field.Field Global) → ty ≡ variants.Struct name fields → length (rc_slice_items fields) ≡ spec.part_count (ty_view ty)
 struct_count ty name fields is =
-    sym (length-map fields.items field_view) ∙ fields_count (map field_view fields.items) ∙ ap spec.part_count (sym (ap ty_view is ∙ ty_view-Struct name fields))
+    sym (length-map (rc_slice_items fields) field_view) ∙ fields_count (map field_view (rc_slice_items fields)) ∙ ap spec.part_count (sym (ap ty_view is ∙ ty_view-Struct name fields))
 
 pub ruleset call_rows = (struct_count)
 

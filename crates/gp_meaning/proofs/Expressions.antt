@@ -1,17 +1,17 @@
 -- Expressions under functions that agree.
 use Rattle.std.proofs.Common.{◌≡◌, ℕ, ◌<◌, List, [], ◌∷◌, Option, Some, None, Ok, Err, arith}
 use Rattle.gp_base.specs.declared.event.GateName.TheVariants as gate
-use Rattle.gp_base.specs.Run.{Run, Stuck}
+use Rattle.gp_base.specs.Run.{Run, Stuck, or_stuck}
 use Rattle.gp_base.specs.World.{World, allocate, free, measure, measure_free, reset, apply_gate, apply_gate_on_two, apply_gate_on_three, rotate}
-use Rattle.gp_callee.specs.Callee.{Callee, Written, Made, BuiltIn, callee_of}
-use Rattle.gp_environment.specs.Environment.{Names}
+use Rattle.gp_locals.specs.Callee.{Callee, Written, Made, BuiltIn, callee_of}
+use Rattle.gp_locals.specs.Environment.{Names}
 use Rattle.gp_tree.specs.Expression as expr
 use Rattle.gp_tree.specs.Expression.{Expression, Expressions, no_expressions, with_expression}
 use Rattle.gp_tree.specs.declared.place.Place.{Place}
 use Rattle.gp_types.specs.declared.builtins.Builtin.{Builtin}
 use Rattle.gp_types.specs.declared.builtins.Builtin.TheVariants as built_in
 use Rattle.gp_meaning.specs.Value.{Value, number, boolean, qubit, boolean_of}
-use Rattle.gp_meaning.specs.State.{State, found, on_world, placed, variable, value_at, assign_name, assign_place}
+use Rattle.gp_meaning.specs.State.{State, on_world, placed, variable, value_at, assign_name, assign_place}
 use Rattle.gp_meaning.specs.Operators.{Answer, operated, minus_of, answered}
 use Rattle.gp_meaning.specs.Calls.{Functions, gives, performed, reported, qubit_at, number_at, called, tag_of, put_back, put_back_each}
 use Rattle.gp_meaning.specs.Meaning.{Frame, value, needed, truth, read, evaluated, evaluated_each, evaluated_behind}
@@ -29,20 +29,20 @@ reported_falls _ _ w = omega arith
 
 performed_falls : (b : Builtin) (tag : Option (List ℕ)) (vs : List Value) → Falls (performed b tag vs)
 performed_falls built_in.Qubit tag vs = bind_falls allocate (λ q. gives (Some (qubit q)) []) (λ w. omega arith) (λ q w. omega arith)
-performed_falls built_in.Discard tag vs = bind_falls (found (qubit_at vs 0)) _ (found_falls _) (λ q. bind_falls (free q) _ (free_falls q) (λ _ w. omega arith))
-performed_falls built_in.Measure tag vs = bind_falls (found (qubit_at vs 0)) _ (found_falls _) (λ q. bind_falls (measure_free q) _ (measure_free_falls q) (λ b w. omega arith))
-performed_falls built_in.ProjectZ tag vs = bind_falls (found (qubit_at vs 0)) _ (found_falls _) (λ q. bind_falls (measure q) _ (measure_falls q) (λ b w. omega arith))
-performed_falls built_in.Reset tag vs = bind_falls (found (qubit_at vs 0)) _ (found_falls _) (λ q. bind_falls (reset q) _ (reset_falls q) (λ _ w. omega arith))
-performed_falls (built_in.OneQubitGate g) tag vs = bind_falls (found (qubit_at vs 0)) _ (found_falls _) (λ q. bind_falls (apply_gate g q) _ (gate_falls g q) (λ _ w. omega arith))
+performed_falls built_in.Discard tag vs = bind_falls (or_stuck (qubit_at vs 0)) _ (found_falls _) (λ q. bind_falls (free q) _ (free_falls q) (λ _ w. omega arith))
+performed_falls built_in.Measure tag vs = bind_falls (or_stuck (qubit_at vs 0)) _ (found_falls _) (λ q. bind_falls (measure_free q) _ (measure_free_falls q) (λ b w. omega arith))
+performed_falls built_in.ProjectZ tag vs = bind_falls (or_stuck (qubit_at vs 0)) _ (found_falls _) (λ q. bind_falls (measure q) _ (measure_falls q) (λ b w. omega arith))
+performed_falls built_in.Reset tag vs = bind_falls (or_stuck (qubit_at vs 0)) _ (found_falls _) (λ q. bind_falls (reset q) _ (reset_falls q) (λ _ w. omega arith))
+performed_falls (built_in.OneQubitGate g) tag vs = bind_falls (or_stuck (qubit_at vs 0)) _ (found_falls _) (λ q. bind_falls (apply_gate g q) _ (gate_falls g q) (λ _ w. omega arith))
 performed_falls (built_in.TwoQubitGate g) tag vs =
-    bind_falls (found (qubit_at vs 0)) _ (found_falls _)
-    (λ p. bind_falls (found (qubit_at vs 1)) _ (found_falls _) (λ q. bind_falls (apply_gate_on_two g p q) _ (gate_on_two_falls g p q) (λ _ w. omega arith)))
+    bind_falls (or_stuck (qubit_at vs 0)) _ (found_falls _)
+    (λ p. bind_falls (or_stuck (qubit_at vs 1)) _ (found_falls _) (λ q. bind_falls (apply_gate_on_two g p q) _ (gate_on_two_falls g p q) (λ _ w. omega arith)))
 performed_falls built_in.Toffoli tag vs =
-    bind_falls (found (qubit_at vs 0)) _ (found_falls _)
-    (λ p. bind_falls (found (qubit_at vs 1)) _ (found_falls _)
-    (λ q. bind_falls (found (qubit_at vs 2)) _ (found_falls _) (λ r. bind_falls (apply_gate_on_three gate.Toffoli p q r) _ (gate_on_three_falls gate.Toffoli p q r) (λ _ w. omega arith))))
+    bind_falls (or_stuck (qubit_at vs 0)) _ (found_falls _)
+    (λ p. bind_falls (or_stuck (qubit_at vs 1)) _ (found_falls _)
+    (λ q. bind_falls (or_stuck (qubit_at vs 2)) _ (found_falls _) (λ r. bind_falls (apply_gate_on_three gate.Toffoli p q r) _ (gate_on_three_falls gate.Toffoli p q r) (λ _ w. omega arith))))
 performed_falls (built_in.Rotation g) tag vs =
-    bind_falls (found (qubit_at vs 0)) _ (found_falls _) (λ q. bind_falls (found (number_at vs 1)) _ (found_falls _) (λ a. bind_falls (rotate g q a) _ (rotate_falls g q a) (λ _ w. omega arith)))
+    bind_falls (or_stuck (qubit_at vs 0)) _ (found_falls _) (λ q. bind_falls (or_stuck (number_at vs 1)) _ (found_falls _) (λ a. bind_falls (rotate g q a) _ (rotate_falls g q a) (λ _ w. omega arith)))
 performed_falls built_in.Result tag vs = reported_falls tag _
 
 pub called_agree : (t : ℕ) (f f' : Functions) → AgreeFunctions t f f' → (callee : Callee) (name : List ℕ) (tag : Option (List ℕ)) (vs : List Value)
@@ -57,7 +57,7 @@ name_agree t names name v = agree_kept turns_left t (assign_name names name v) (
 pub place_agree : (t : ℕ) (names : Names) (p : Place) (v : Value) → Agree turns_left t (assign_place names p v) (assign_place names p v)
 place_agree t names p v =
     agree_kept turns_left t (assign_place names p v)
-    (λ s. let o = placed (variable names s.variables p.name) p.fields v in (agree_bind turns_left t (found o) (found o) _ _ (agree_found turns_left t o) (λ x. name_agree t names p.name x)).falls s)
+    (λ s. let o = placed (variable names s.variables p.name) p.fields v in (agree_bind turns_left t (or_stuck o) (or_stuck o) _ _ (agree_found turns_left t o) (λ x. name_agree t names p.name x)).falls s)
 
 back_agree : (t : ℕ) (names : Names) (e : Expression) (v : Value) → Agree turns_left t (put_back names e v) (put_back names e v)
 back_agree t names (expr.place p) v = place_agree t names p v
@@ -75,7 +75,7 @@ module _ (t : ℕ) (F : Frame) (f f' : Functions) (A : AgreeFunctions t f f') wh
   value_agree v = agree_ret turns_left t (Some v)
 
   pub needed_agree : (m m' : Run State (Option Value)) → Agree turns_left t m m' → Agree turns_left t (needed m) (needed m')
-  needed_agree m m' G = agree_bind turns_left t m m' found found G (λ o. agree_found turns_left t o)
+  needed_agree m m' G = agree_bind turns_left t m m' or_stuck or_stuck G (λ o. agree_found turns_left t o)
 
   pub truth_agree : (m m' : Run State (Option Value)) → Agree turns_left t m m' → Agree turns_left t (truth m) (truth m')
   truth_agree m m' G = agree_bind turns_left t (needed m) (needed m') _ _ (needed_agree m m' G) (λ v. agree_found turns_left t (boolean_of v))
@@ -85,7 +85,7 @@ module _ (t : ℕ) (F : Frame) (f f' : Functions) (A : AgreeFunctions t f f') wh
   answered_agree (Err e) = agree_stop turns_left t e
 
   read_agree : (o : Option Value) → Agree turns_left t (read o) (read o)
-  read_agree o = agree_bind turns_left t (found o) (found o) _ _ (agree_found turns_left t o) (λ v. value_agree v)
+  read_agree o = agree_bind turns_left t (or_stuck o) (or_stuck o) _ _ (agree_found turns_left t o) (λ v. value_agree v)
 
   mutual
     pub evaluated_agree : (e : Expression) → Agree turns_left t (evaluated F f e) (evaluated F f' e)
@@ -95,7 +95,7 @@ module _ (t : ℕ) (F : Frame) (f f' : Functions) (A : AgreeFunctions t f f') wh
     evaluated_agree (expr.place p) = agree_kept turns_left t (evaluated F f (expr.place p)) (λ s. (read_agree (value_at F.names s.variables p)).falls s)
     evaluated_agree (expr.minus a) =
         agree_bind turns_left t (needed (evaluated F f a)) (needed (evaluated F f' a)) _ _ (needed_agree _ _ (evaluated_agree a))
-        (λ x. agree_bind turns_left t (found (minus_of x)) (found (minus_of x)) _ _ (agree_found turns_left t (minus_of x)) value_agree)
+        (λ x. agree_bind turns_left t (or_stuck (minus_of x)) (or_stuck (minus_of x)) _ _ (agree_found turns_left t (minus_of x)) value_agree)
     evaluated_agree (expr.negation a) =
         agree_bind turns_left t (truth (evaluated F f a)) (truth (evaluated F f' a)) _ _ (truth_agree _ _ (evaluated_agree a)) (λ b. value_agree _)
     evaluated_agree (expr.binary o a b) =
@@ -118,8 +118,8 @@ module _ (t : ℕ) (F : Frame) (f f' : Functions) (A : AgreeFunctions t f f') wh
     evaluated_agree (expr.tuple es) =
         agree_bind turns_left t (evaluated_each F f es) (evaluated_each F f' es) _ _ (each_agree es) (λ vs. value_agree _)
     evaluated_agree (expr.call name es) =
-        agree_bind turns_left t (found (callee_of F.known F.names name)) (found (callee_of F.known F.names name)) _ _ (agree_found turns_left t _)
-        (λ callee. agree_bind turns_left t (found (tag_of callee es)) (found (tag_of callee es)) _ _ (agree_found turns_left t _)
+        agree_bind turns_left t (or_stuck (callee_of F.known F.names name)) (or_stuck (callee_of F.known F.names name)) _ _ (agree_found turns_left t _)
+        (λ callee. agree_bind turns_left t (or_stuck (tag_of callee es)) (or_stuck (tag_of callee es)) _ _ (agree_found turns_left t _)
         (λ tag. agree_bind turns_left t (evaluated_behind F f tag es) (evaluated_behind F f' tag es) _ _ (behind_agree tag es)
         (λ vs. agree_bind turns_left t (on_world (called f callee name tag vs)) (on_world (called f' callee name tag vs)) _ _ (agree_on_world t _ _ (called_agree t f f' A callee name tag vs))
         (λ c. agree_bind turns_left t (put_back_each F.names es c.finals) (put_back_each F.names es c.finals) _ _ (backs_agree t F.names es c.finals)

@@ -1,9 +1,9 @@
 -- Runs of two levels that are the same, and runs that never gain a turn.
 use Rattle.std.proofs.Common.{◌≡◌, ℕ, zero, suc, ℤ, ◌<◌, ◌≤◌, Bool, true, false, if◌then◌else◌, List, [], ◌∷◌, Option, Some, None, refl, ap, ◌∙◌, arith}
-use Rattle.gp_base.specs.Run.{Out, Run, Returned, Stopped, Stop, Stuck, ret, stop, go_on, ◌>>=◌}
+use Rattle.gp_base.specs.Run.{Out, Run, Returned, Stopped, Stop, Stuck, ret, stop, go_on, ◌>>=◌, or_stuck}
 use Rattle.gp_base.specs.declared.event.GateName.{GateName}
 use Rattle.gp_base.specs.World.{World, take_turn, turn_of, is_live, are_two_live, are_three_live, on_live, outcome_of, free, measure, measure_free, reset, apply_gate, apply_gate_on_two, apply_gate_on_three, rotate}
-use Rattle.gp_meaning.specs.State.{State, Variables, found, on_world, with_variables}
+use Rattle.gp_meaning.specs.State.{State, Variables, on_world, with_variables}
 
 -- what a state counts, where a run ends
 abbrev pub after : {S A : Type 0} → (S → ℕ) → Out S A → ℕ
@@ -39,7 +39,7 @@ module _ {S : Type 0} (count : S → ℕ) (t : ℕ) where
   pub agree_stop : {A : Type 0} (e : Stop) → Agree {S = S} {A = A} count t (stop e) (stop e)
   agree_stop e = agree_kept (stop e) (λ s. omega arith)
 
-  pub agree_found : {A : Type 0} (o : Option A) → Agree count t (found o) (found o)
+  pub agree_found : {A : Type 0} (o : Option A) → Agree count t (or_stuck o) (or_stuck o)
   agree_found None = agree_stop Stuck
   agree_found (Some a) = agree_ret a
 
@@ -96,7 +96,7 @@ gate_on_three_falls g p q r w = if_falls (are_three_live w.flags p q r) _ (stop 
 pub rotate_falls : (g : GateName) (q : ℕ) (a : ℤ) → Falls (rotate g q a)
 rotate_falls g q a = live_falls q _ (λ w. omega arith)
 
-pub found_falls : {A : Type 0} (o : Option A) → Falls (found o)
+pub found_falls : {A : Type 0} (o : Option A) → Falls (or_stuck o)
 found_falls None w = omega arith
 found_falls (Some a) w = omega arith
 

@@ -2,11 +2,11 @@
 use Rattle.std.specs.Prelude.{ℕ, suc, ℤ, Bool, true, false, List, [], ◌∷◌, Option, Some, None, option_and_then, if◌then◌else◌, ◌==◌, length, map, slice_get}
 use Rattle.gp_base.specs.declared.event.Event.TheVariants as event
 use Rattle.gp_base.specs.declared.event.GateName.TheVariants as gate
-use Rattle.gp_base.specs.Run.{Run, Stuck, stop, ret, ◌>>=◌}
+use Rattle.gp_base.specs.Run.{Run, Stuck, stop, ret, ◌>>=◌, or_stuck}
 use Rattle.gp_base.specs.World.{World, allocate, free, apply_gate, apply_gate_on_two, apply_gate_on_three, rotate, reset, measure, measure_free, does, take_turn}
-use Rattle.gp_callee.specs.Callee.{Callee, Written, Made, BuiltIn, takes_tag}
-use Rattle.gp_callee.specs.Tag.{is_tag}
-use Rattle.gp_environment.specs.Environment.{Names}
+use Rattle.gp_locals.specs.Callee.{Callee, Written, Made, BuiltIn, takes_tag}
+use Rattle.gp_locals.specs.Tag.{is_tag}
+use Rattle.gp_locals.specs.Environment.{Names}
 use Rattle.gp_tree.specs.Expression as expr
 use Rattle.gp_tree.specs.Expression.{Expression, Expressions, no_expressions, with_expression}
 use Rattle.gp_types.specs.Types as types
@@ -14,10 +14,8 @@ use Rattle.gp_types.specs.Types.{Ty, Fields}
 use Rattle.gp_types.specs.Builtins.{parameters_of}
 use Rattle.gp_types.specs.declared.builtins.Builtin.{Builtin}
 use Rattle.gp_types.specs.declared.builtins.Builtin.TheVariants as built_in
-use Rattle.gp_types.specs.declared.signature.Mode.{Mode}
-use Rattle.gp_types.specs.declared.signature.Mode.TheVariants.{Borrowed}
 use Rattle.gp_meaning.specs.Value.{Value, number, boolean, qubit, number_of, qubit_of, structure, FieldValues, no_fields, with_field}
-use Rattle.gp_meaning.specs.State.{State, found, assign_place}
+use Rattle.gp_meaning.specs.State.{State, assign_place}
 
 -- What a call gives: its answer, where it has one, and for each parameter its final value, where it is borrowed. Behind
 -- the last borrowed parameter there need be nothing.
@@ -86,21 +84,21 @@ reported _ _ = stop Stuck
 -- A built-in function with these values; where one of them is missing or of another kind than it takes, it is stuck.
 abbrev pub performed : Builtin → (tag : Option (List ℕ)) → List Value → Run World Called
 performed built_in.Qubit tag vs = allocate >>= λ q. gives (Some (qubit q)) []
-performed built_in.Discard tag vs = found (qubit_at vs 0) >>= λ q. free q >>= λ _. gives None []
-performed built_in.Measure tag vs = found (qubit_at vs 0) >>= λ q. measure_free q >>= λ b. gives (Some (boolean b)) []
-performed built_in.ProjectZ tag vs = found (qubit_at vs 0) >>= λ q. measure q >>= λ b. gives (Some (boolean b)) (q ∷ [])
-performed built_in.Reset tag vs = found (qubit_at vs 0) >>= λ q. reset q >>= λ _. gives None (q ∷ [])
-performed (built_in.OneQubitGate g) tag vs = found (qubit_at vs 0) >>= λ q. apply_gate g q >>= λ _. gives None (q ∷ [])
+performed built_in.Discard tag vs = or_stuck (qubit_at vs 0) >>= λ q. free q >>= λ _. gives None []
+performed built_in.Measure tag vs = or_stuck (qubit_at vs 0) >>= λ q. measure_free q >>= λ b. gives (Some (boolean b)) []
+performed built_in.ProjectZ tag vs = or_stuck (qubit_at vs 0) >>= λ q. measure q >>= λ b. gives (Some (boolean b)) (q ∷ [])
+performed built_in.Reset tag vs = or_stuck (qubit_at vs 0) >>= λ q. reset q >>= λ _. gives None (q ∷ [])
+performed (built_in.OneQubitGate g) tag vs = or_stuck (qubit_at vs 0) >>= λ q. apply_gate g q >>= λ _. gives None (q ∷ [])
 performed (built_in.TwoQubitGate g) tag vs =
-    found (qubit_at vs 0) >>= λ p. found (qubit_at vs 1) >>= λ q. apply_gate_on_two g p q >>= λ _. gives None (p ∷ q ∷ [])
+    or_stuck (qubit_at vs 0) >>= λ p. or_stuck (qubit_at vs 1) >>= λ q. apply_gate_on_two g p q >>= λ _. gives None (p ∷ q ∷ [])
 performed built_in.Toffoli tag vs =
-    found (qubit_at vs 0)
-    >>= λ p. found (qubit_at vs 1)
-    >>= λ q. found (qubit_at vs 2)
+    or_stuck (qubit_at vs 0)
+    >>= λ p. or_stuck (qubit_at vs 1)
+    >>= λ q. or_stuck (qubit_at vs 2)
     >>= λ r. apply_gate_on_three gate.Toffoli p q r
     >>= λ _. gives None (p ∷ q ∷ r ∷ [])
 performed (built_in.Rotation g) tag vs =
-    found (qubit_at vs 0) >>= λ q. found (number_at vs 1) >>= λ a. rotate g q a >>= λ _. gives None (q ∷ [])
+    or_stuck (qubit_at vs 0) >>= λ q. or_stuck (number_at vs 1) >>= λ a. rotate g q a >>= λ _. gives None (q ∷ [])
 performed built_in.Result tag vs = reported tag (slice_get vs 0)
 
 -- ---- calls
@@ -124,10 +122,6 @@ called functions (Made ty) name tag vs = gives (Some (structure (struct_fields t
 called functions (BuiltIn b) name tag vs = performed b tag vs
 
 -- ---- borrowed arguments
-
-abbrev pub is_borrowed : Mode → Bool
-is_borrowed Borrowed = true
-is_borrowed _ = false
 
 -- a final value goes to the place of its argument, where that is a place
 abbrev pub put_back : Names → Expression → Value → Run State (Unit {0})

@@ -1,5 +1,6 @@
 -- What operators answer, once their operands are values.
 use Rattle.std.specs.Prelude.{ℤ, pos, Bool, not, int_lt, int_le, if◌then◌else◌, Option, option_map, Result, Ok, Err}
+use Rattle.gp_base.specs.Truth.{same_truth}
 use Rattle.gp_base.specs.Number.{sum, difference, product, negated, quotient, remainder, is_same}
 use Rattle.gp_base.specs.Run.{Stop, DivisionByZero, Stuck, Run, ret, stop}
 use Rattle.gp_tree.specs.declared.expr.BinOp.{BinOp}
@@ -14,9 +15,6 @@ Answer = Result Value Stop
 abbrev pub answered : {S : Type 0} → Answer → Run S Value
 answered (Ok v) = ret v
 answered (Err e) = stop e
-
-abbrev pub same_truth : Bool → Bool → Bool
-same_truth a b = if a then b else not b
 
 -- the answer of a division by the second number
 abbrev pub divided : ℤ → ℤ → Answer

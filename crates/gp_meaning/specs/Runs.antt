@@ -2,7 +2,7 @@
 use Rattle.std.specs.Prelude.{ℕ, ℤ, Bool, List, Option}
 use Rattle.gp_base.specs.Run.{Run}
 use Rattle.gp_base.specs.World.{World}
-use Rattle.gp_callee.specs.Callee.{Callee}
+use Rattle.gp_locals.specs.Callee.{Callee}
 use Rattle.gp_scope.specs.Known.{Known, known_of}
 use Rattle.gp_tree.specs.Expression.{Expression, Expressions}
 use Rattle.gp_tree.specs.Program.{ProgramItem}

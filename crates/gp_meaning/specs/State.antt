@@ -1,8 +1,8 @@
 -- The state of a function's run: the values of its names, and the world.
 use Rattle.std.specs.Prelude.{ℕ, List, [], ◌∷◌, length, ◌==◌, if◌then◌else◌, map, Option, Some, None, slice_index_or, slice_set}
-use Rattle.gp_base.specs.Run.{Out, Run, Returned, Stopped, Stuck, stop, ret, ◌>>=◌}
+use Rattle.gp_base.specs.Run.{Out, Run, Returned, Stopped, Stuck, stop, ret, ◌>>=◌, or_stuck}
 use Rattle.gp_base.specs.World.{World}
-use Rattle.gp_environment.specs.Environment.{Names, place_among}
+use Rattle.gp_locals.specs.Environment.{Names, place_among}
 use Rattle.gp_tree.specs.declared.place.Place.{Place}
 use Rattle.gp_tree.specs.declared.place.Targets.{Targets}
 use Rattle.gp_tree.specs.declared.place.Targets.TheVariants as targets
@@ -17,11 +17,6 @@ pub record State : Type 0 where
   pub world : World
 
 -- ---- what stops a run, and what changes the world alone
-
--- a run that goes on with what is there, and is stuck where nothing is
-abbrev pub found : {S A : Type 0} → Option A → Run S A
-found None = stop Stuck
-found (Some a) = ret a
 
 abbrev pub with_variables : {A : Type 0} → Variables → Out World A → Out State A
 with_variables vs (Returned a w) = Returned a (record { variables = vs; world = w })
@@ -83,7 +78,7 @@ abbrev pub assign_name : Names → List ℕ → Value → Run State (Unit {0})
 assign_name names name v s = Returned tt (record s { variables = set names s.variables name v })
 
 abbrev pub assign_place : Names → Place → Value → Run State (Unit {0})
-assign_place names place v s = (found (placed (variable names s.variables place.name) place.fields v) >>= assign_name names place.name) s
+assign_place names place v s = (or_stuck (placed (variable names s.variables place.name) place.fields v) >>= assign_name names place.name) s
 
 abbrev pub assign_each : Names → List Place → List Value → Run State (Unit {0})
 assign_each names (place ∷ places) (v ∷ vs) = assign_place names place v >>= λ _. assign_each names places vs
@@ -95,4 +90,4 @@ assign_parts names places vs = if length places == length vs then assign_each na
 
 abbrev pub assign : Names → Targets → Value → Run State (Unit {0})
 assign names (targets.One place) v = assign_place names place v
-assign names (targets.Pattern places) v = found (parts_of v) >>= assign_parts names places
+assign names (targets.Pattern places) v = or_stuck (parts_of v) >>= assign_parts names places

@@ -1,6 +1,6 @@
 //! What the built-in functions do.
 
-ghost use Rattle.std.specs.Prelude.{◌≡◌, ◌≤◌, IfOk, Some, None, map, option_map};
+ghost use Rattle.std.specs.Prelude.{◌≡◌, ◌≤◌, [], IfOk, Some, None, map, option_map};
 ghost use Rattle.gp_types.specs.declared.builtins.Builtin.TheVariants as built_in;
 ghost use Rattle.gp_meaning.specs.Calls as spec;
 ghost use Rattle.gp_meaning.specs.Value as values;
@@ -92,38 +92,74 @@ pub fn perform(
     ensures fewer { world.new.turns ≤ world.old.turns }
 {
     match function {
-        Builtin::Qubit => {
-            let qubit = world.allocate()?;
-            Ok(Called::with_qubits(alloc, Some(Value::Qubit(qubit)), &[])?)
-        }
-        Builtin::Discard => {
-            world.free(qubit_at(values, 0)?)?;
-            Ok(Called::with_qubits(alloc, None, &[])?)
-        }
-        Builtin::Measure => {
-            let outcome = world.measure_free(qubit_at(values, 0)?)?;
-            Ok(Called::with_qubits(alloc, Some(Value::Bool(outcome)), &[])?)
-        }
-        Builtin::ProjectZ => {
-            let qubit = qubit_at(values, 0)?;
-            let outcome = world.measure(qubit)?;
-            Ok(Called::with_qubits(alloc, Some(Value::Bool(outcome)), &[qubit])?)
-        }
-        Builtin::Reset => {
-            let qubit = qubit_at(values, 0)?;
-            world.reset(qubit)?;
-            Ok(Called::with_qubits(alloc, None, &[qubit])?)
-        }
-        Builtin::OneQubitGate(gate) => {
-            let qubit = qubit_at(values, 0)?;
-            world.apply_gate(gate, qubit)?;
-            Ok(Called::with_qubits(alloc, None, &[qubit])?)
-        }
+        Builtin::Qubit => allocate(alloc, world),
+        Builtin::Discard => discard(alloc, world, values),
+        Builtin::Measure => measure(alloc, world, values),
+        Builtin::ProjectZ => project(alloc, world, values),
+        Builtin::Reset => reset(alloc, world, values),
+        Builtin::OneQubitGate(gate) => apply_to_one(alloc, world, gate, values),
         Builtin::TwoQubitGate(gate) => apply_to_two(alloc, world, gate, values),
         Builtin::Toffoli => apply_to_three(alloc, world, values),
         Builtin::Rotation(gate) => rotate(alloc, world, gate, values),
         Builtin::Result => report(alloc, world, tag, values),
     }
+}
+
+fn allocate(alloc: Global, world: &mut World<'_>) -> Result<Called, Halt>
+    ensures run { Ran called_view result (world_view world.new) (spec.performed built_in.Qubit None [] (world_view world.old)) }
+    ensures fewer { world.new.turns ≤ world.old.turns }
+{
+    let qubit = world.allocate()?;
+    Ok(Called::with_qubits(alloc, Some(Value::Qubit(qubit)), &[])?)
+}
+
+fn discard(alloc: Global, world: &mut World<'_>, values: &[Value]) -> Result<Called, Halt>
+    ensures run { Ran called_view result (world_view world.new) (spec.performed built_in.Discard None (map value_view values.now) (world_view world.old)) }
+    ensures fewer { world.new.turns ≤ world.old.turns }
+{
+    world.free(qubit_at(values, 0)?)?;
+    Ok(Called::with_qubits(alloc, None, &[])?)
+}
+
+fn measure(alloc: Global, world: &mut World<'_>, values: &[Value]) -> Result<Called, Halt>
+    ensures run { Ran called_view result (world_view world.new) (spec.performed built_in.Measure None (map value_view values.now) (world_view world.old)) }
+    ensures fewer { world.new.turns ≤ world.old.turns }
+{
+    let outcome = world.measure_free(qubit_at(values, 0)?)?;
+    Ok(Called::with_qubits(alloc, Some(Value::Bool(outcome)), &[])?)
+}
+
+// A measurement after which the qubit is still there.
+fn project(alloc: Global, world: &mut World<'_>, values: &[Value]) -> Result<Called, Halt>
+    ensures run { Ran called_view result (world_view world.new) (spec.performed built_in.ProjectZ None (map value_view values.now) (world_view world.old)) }
+    ensures fewer { world.new.turns ≤ world.old.turns }
+{
+    let qubit = qubit_at(values, 0)?;
+    let outcome = world.measure(qubit)?;
+    Ok(Called::with_qubits(alloc, Some(Value::Bool(outcome)), &[qubit])?)
+}
+
+fn reset(alloc: Global, world: &mut World<'_>, values: &[Value]) -> Result<Called, Halt>
+    ensures run { Ran called_view result (world_view world.new) (spec.performed built_in.Reset None (map value_view values.now) (world_view world.old)) }
+    ensures fewer { world.new.turns ≤ world.old.turns }
+{
+    let qubit = qubit_at(values, 0)?;
+    world.reset(qubit)?;
+    Ok(Called::with_qubits(alloc, None, &[qubit])?)
+}
+
+fn apply_to_one(
+    alloc: Global,
+    world: &mut World<'_>,
+    gate: GateName,
+    values: &[Value],
+) -> Result<Called, Halt>
+    ensures run { Ran called_view result (world_view world.new) (spec.performed (built_in.OneQubitGate gate) None (map value_view values.now) (world_view world.old)) }
+    ensures fewer { world.new.turns ≤ world.old.turns }
+{
+    let qubit = qubit_at(values, 0)?;
+    world.apply_gate(gate, qubit)?;
+    Ok(Called::with_qubits(alloc, None, &[qubit])?)
 }
 
 fn apply_to_two(

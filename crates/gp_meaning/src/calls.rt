@@ -1,8 +1,8 @@
 //! What calls take and give.
 
 ghost use Rattle.std.specs.Prelude.{◌≡◌, Some, [], IfOk, map, option_map};
-ghost use Rattle.gp_callee.specs.Tag.{is_tag};
-ghost use Rattle.gp_callee.specs.View.{callee_view};
+ghost use Rattle.gp_locals.specs.Tag.{is_tag};
+ghost use Rattle.gp_locals.specs.CalleeView.{callee_view};
 ghost use Rattle.gp_tree.specs.Expression.{expression, expressions};
 ghost use Rattle.gp_types.specs.Types.{fields_of};
 ghost use Rattle.gp_types.specs.View.{ty_view};
@@ -13,11 +13,10 @@ ghost use Rattle.gp_meaning.specs.View.{value_view, field_view, variables_view, 
 
 use crate::built_ins::Called;
 use crate::halt::Halt;
-use crate::value::{FieldValue, FieldValues, Value, Values, copy};
+use crate::value::{FieldValue, FieldValues, Value, Values};
 use crate::variables::Variables;
-use gp_base::{Name, Tag, TextBytes};
-use gp_callee::{Callee, is_tag, takes_tag};
-use gp_environment::Locals;
+use gp_base::{Tag, TextBytes};
+use gp_locals::{Callee, Locals, is_tag, takes_tag};
 use gp_tree::Expr;
 use gp_types::{Builtin, Field, Ty};
 use std::alloc::{AllocError, Global};
@@ -123,8 +122,8 @@ fn field_values(
     for i in 0..fields.len() {
         if i < values.len() {
             made.push(FieldValue {
-                name: Name::new(alloc, fields[i].name.as_str())?,
-                value: copy(alloc, &values[i])?,
+                name: fields[i].name.copy()?,
+                value: values[i].copy(alloc)?,
             })?;
         }
     }
@@ -162,7 +161,7 @@ fn put_back(
 {
     match argument {
         Expr::Place(place) => {
-            let value = copy(alloc, value)?;
+            let value = value.copy(alloc)?;
             variables.assign_place(alloc, names, place, value)
         }
         _ => Ok(()),

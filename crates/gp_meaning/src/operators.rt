@@ -1,6 +1,5 @@
 //! What operators answer, once their operands are values.
 
-ghost use Rattle.std.specs.Prelude.{◌≡◌, ◌≢◌, ◌<ℤ◌, pos, negsuc};
 ghost use Rattle.gp_base.specs.Number as numbers;
 ghost use Rattle.gp_meaning.specs.Operators as spec;
 ghost use Rattle.gp_meaning.specs.Value as values;
@@ -9,73 +8,7 @@ ghost use Rattle.gp_meaning.specs.View.{value_view, Found, Given};
 use crate::halt::Halt;
 use crate::value::Value;
 use gp_tree::BinOp;
-
-// What 64 bits keep of a sum, a difference and a product.
-#[tactic(auto, using(crate::proofs::Numbers::numbers))]
-fn sum(left: i64, right: i64) -> i64
-    ensures { result ≡ numbers.sum left right }
-{
-    left.wrapping_add(right)
-}
-
-#[tactic(auto, using(crate::proofs::Numbers::numbers))]
-fn difference(left: i64, right: i64) -> i64
-    ensures { result ≡ numbers.difference left right }
-{
-    left.wrapping_sub(right)
-}
-
-#[tactic(auto, using(crate::proofs::Numbers::numbers))]
-fn product(left: i64, right: i64) -> i64
-    ensures { result ≡ numbers.product left right }
-{
-    left.wrapping_mul(right)
-}
-
-#[tactic(auto, using(crate::proofs::Numbers::numbers))]
-fn negated(number: i64) -> i64
-    ensures { result ≡ numbers.negated number }
-{
-    number.wrapping_neg()
-}
-
-// The quotient of a division by a number below -1, rounded towards minus infinity.
-#[tactic(auto, using(crate::proofs::Numbers::numbers))]
-fn quotient_by_negative(left: i64, right: i64) -> i64
-    requires { right <ℤ negsuc 0 }
-    ensures { result ≡ numbers.floor_quotient left right }
-{
-    let divisor = right.unsigned_abs();
-    if left > 0 {
-        -1 - ((left as u64 - 1) / divisor) as i64
-    } else {
-        (left.unsigned_abs() / divisor) as i64
-    }
-}
-
-// What 64 bits keep of the quotient rounded towards minus infinity.
-#[tactic(auto, using(crate::proofs::Numbers::numbers))]
-fn quotient(left: i64, right: i64) -> i64
-    requires { right ≢ pos 0 }
-    ensures { result ≡ numbers.quotient left right }
-{
-    if right > 0 {
-        left.div_euclid(right)
-    } else if right == -1 {
-        negated(left)
-    } else {
-        quotient_by_negative(left, right)
-    }
-}
-
-// What is left of a division; where it isn't 0 it has the divisor's sign.
-#[tactic(auto, using(crate::proofs::Numbers::numbers))]
-fn remainder(left: i64, right: i64) -> i64
-    requires { right ≢ pos 0 }
-    ensures { result ≡ numbers.remainder left right }
-{
-    difference(left, product(quotient(left, right), right))
-}
+use integers::{difference, negated, product, quotient, remainder, sum};
 
 fn divide(left: i64, right: i64) -> Result<Value, Halt>
     ensures { Given value_view result (spec.divided (numbers.quotient left right) right) }

@@ -8,7 +8,7 @@ use gp_base::Name;
 use std::alloc::{AllocError, Global};
 
 /// A value of a run.
-#[derive(Debug, Drop)]
+#[derive(Drop)]
 #[cycle(value)]
 pub enum Value {
     /// A whole number.
@@ -27,7 +27,7 @@ pub enum Value {
 pub type Values = Vec<Value>;
 
 /// A field of a struct with its value.
-#[derive(Debug, Drop)]
+#[derive(Drop)]
 #[cycle(value)]
 pub struct FieldValue {
     /// The field's name.
@@ -39,40 +39,45 @@ pub struct FieldValue {
 /// The fields of a struct.
 pub type FieldValues = Vec<FieldValue>;
 
-/// The same value once more.
-#[cycle(copy)]
-pub fn copy(alloc: Global, value: &Value) -> Result<Value, AllocError>
-    ensures { IfOk result (λ made. value_view made ≡ value_view value.now) }
-{
-    match value {
-        Value::Int(number) => Ok(Value::Int(*number)),
-        Value::Bool(truth) => Ok(Value::Bool(*truth)),
-        Value::Qubit(number) => Ok(Value::Qubit(*number)),
-        Value::Tuple(parts) => Ok(Value::Tuple(copy_values(alloc, parts)?)),
-        Value::Struct(fields) => Ok(Value::Struct(copy_fields(alloc, fields)?)),
+impl Value {
+    ghost use Rattle.std.specs.Prelude.{◌≡◌, IfOk};
+    ghost use Rattle.gp_meaning.specs.View.{value_view};
+
+    /// The same value once more.
+    #[cycle(copying)]
+    pub fn copy(&self, alloc: Global) -> Result<Value, AllocError>
+        ensures { IfOk result (λ made. value_view made ≡ value_view self.now) }
+    {
+        match self {
+            Value::Int(number) => Ok(Value::Int(*number)),
+            Value::Bool(truth) => Ok(Value::Bool(*truth)),
+            Value::Qubit(number) => Ok(Value::Qubit(*number)),
+            Value::Tuple(parts) => Ok(Value::Tuple(copy_values(alloc, parts)?)),
+            Value::Struct(fields) => Ok(Value::Struct(copy_fields(alloc, fields)?)),
+        }
     }
 }
 
-#[cycle(copy)]
+#[cycle(copying)]
 fn copy_values(alloc: Global, values: &[Value]) -> Result<Values, AllocError>
     ensures { IfOk result (λ made. map value_view made.items ≡ map value_view values.now) }
 {
     let mut made = Vec::new(alloc);
     for value in values {
-        made.push(copy(alloc, value)?)?;
+        made.push(value.copy(alloc)?)?;
     }
     Ok(made)
 }
 
-#[cycle(copy)]
+#[cycle(copying)]
 fn copy_fields(alloc: Global, fields: &[FieldValue]) -> Result<FieldValues, AllocError>
     ensures { IfOk result (λ made. map field_view made.items ≡ map field_view fields.now) }
 {
     let mut made = Vec::new(alloc);
     for field in fields {
         made.push(FieldValue {
-            name: Name::new(alloc, field.name.as_str())?,
-            value: copy(alloc, &field.value)?,
+            name: field.name.copy()?,
+            value: field.value.copy(alloc)?,
         })?;
     }
     Ok(made)

@@ -5,8 +5,8 @@ ghost use Rattle.gp_meaning.specs.State as spec;
 ghost use Rattle.gp_meaning.specs.View.{value_view, values_view, variables_view, Found, RanAlone};
 
 use crate::halt::Halt;
-use crate::value::{Value, copy, part_at, with_part};
-use gp_environment::Locals;
+use crate::value::{Value, part_at, with_part};
+use gp_locals::Locals;
 use gp_tree::{Place, Targets};
 use std::alloc::{AllocError, Global};
 
@@ -134,7 +134,7 @@ impl Variables {
             return Err(Halt::Stuck);
         }
         for i in 0..places.len() {
-            let part = copy(alloc, &parts[i])?;
+            let part = parts[i].copy(alloc)?;
             self.assign_place(alloc, names, &places[i], part)?;
         }
         Ok(())

@@ -1,1 +1,14 @@
-pub mod ThinLemmas
+pub mod NestingForms
+pub mod NestingRest
+pub mod NestingComplete
+pub mod NestingBlocks
+pub mod NestingTop
+pub mod NestingTopComplete
+pub mod NestingRuns
+pub mod NestingFaults
+pub mod Places
+pub mod Openings
+pub mod NestingPromises
+pub mod Readings
+pub mod ProgramForms
+pub mod NestingLaws

@@ -1,1 +1,8 @@
-pub mod Thin
+pub mod FirstFault
+pub mod FormLine
+pub mod Nested
+pub mod Nesting
+pub mod NestingLaws
+pub mod Placement
+pub mod Programs
+pub mod code

@@ -6,8 +6,8 @@ use Rattle.std.proofs.lemmas.Bool.Decides.{nat_tests}
 use Rattle.gp_tree.specs.Program.{ProgramItem, StructDefinition}
 use Rattle.gp_scope.specs.Definitions.{structs_in}
 use Rattle.gp_scope.specs.Cycles.{holds, IsWay, IsOnCycle}
-use Rattle.gp_scope.specs.EachName.{each_field_name}
-use Rattle.gp_scope.specs.Components.{held_within, are_ordered, is_above_held}
+use Rattle.gp_scope.specs.code.EachName.{each_field_name}
+use Rattle.gp_scope.specs.code.Components.{held_within, are_ordered, is_above_held}
 use Rattle.gp_scope.proofs.Levels.{and_left, and_right}
 use Rattle.gp_scope.proofs.CycleLemmas.{HeldBy, held_by, field_mentioned_passes}
 

@@ -10,8 +10,8 @@ use Rattle.gp_scope.specs.Checks.{is_among}
 use Rattle.gp_scope.specs.Definitions.{struct_named, structs_in}
 use Rattle.gp_scope.specs.Cycles.{mentions, some_mentions, fields_mention, holds, IsWay, Reaches, IsOnCycle}
 use Rattle.gp_scope.specs.Spelled.{spelled_by, spelled, fields_spelled_by, opened, StructsHaveFields}
-use Rattle.gp_scope.specs.Levels.{size_by, level_size}
-use Rattle.gp_scope.specs.EachName.{each_name, each_name_of, each_field_name}
+use Rattle.gp_scope.specs.code.Levels.{size_by, level_size}
+use Rattle.gp_scope.specs.code.EachName.{each_name, each_name_of, each_field_name}
 use Rattle.gp_scope.proofs.Levels.{and_left, and_right, and_true, closed, closed-none, closed-zero, closed-suc, opened-suc, opened-stays, same_type_by, same_fields_by, type_below, small_type, level-below, level-small}
 
 or_cases : (a b : Bool) → (a || b) ≡ true → (a ≡ false → b ≡ true)
@@ -140,7 +140,7 @@ free-more q path (s ∷ ss) =
     let rest : free (q ∷ path) ss ≤ free path ss = free-more q path ss in
     omega arith
 
-free-less : (q : List ℕ) (path : List (List ℕ)) (ss : List StructDefinition) (found : StructDefinition) → find (λ s. bytes_eq q s.name) ss ≡ Some found
+pub free-less : (q : List ℕ) (path : List (List ℕ)) (ss : List StructDefinition) (found : StructDefinition) → find (λ s. bytes_eq q s.name) ss ≡ Some found
     → is_among q path ≡ false → free (q ∷ path) ss < free path ss
 free-less q path [] found e out = absurd cc
 free-less q path (s ∷ ss) found e out =

@@ -7,8 +7,8 @@ use Rattle.gp_types.specs.Types.{Ty, Tys, Fields}
 use Rattle.gp_types.specs.Size.{size, total_size, total_field_size}
 use Rattle.gp_scope.specs.Definitions.{struct_named}
 use Rattle.gp_scope.specs.Spelled.{spelled_by, all_spelled_by, fields_spelled_by, basic_type, opened}
-use Rattle.gp_scope.specs.EachName.{each_name, each_name_of, each_field_name}
-use Rattle.gp_scope.specs.Levels.{size_by, total_by, fields_total, level_size}
+use Rattle.gp_scope.specs.code.EachName.{each_name, each_name_of, each_field_name}
+use Rattle.gp_scope.specs.code.Levels.{size_by, total_by, fields_total, level_size}
 
 pub and_left : (a b : Bool) → (a && b) ≡ true → a ≡ true
 and_left true b h = refl

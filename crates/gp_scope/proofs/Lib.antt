@@ -10,3 +10,5 @@ pub mod KeptFirst
 pub mod ScopeLoops
 pub mod KnownNames
 pub mod ComponentLemmas
+pub mod CycleChoice
+pub mod NamesLaws

@@ -14,7 +14,7 @@ use Rattle.gp_scope.specs.Checks.{Found}
 use Rattle.gp_scope.specs.Definitions.{structs_in}
 use Rattle.gp_scope.specs.Cycles.{holds, IsWay, IsOnCycle}
 use Rattle.gp_scope.specs.FirstFault.{FindsCycle, IsFirstFault, names_fault}
-use Rattle.gp_scope.specs.Levels.{size_by, level_size}
+use Rattle.gp_scope.specs.code.Levels.{size_by, level_size}
 use Rattle.gp_scope.specs.Sizes.{sizes_fault}
 use Rattle.gp_scope.specs.Spelled.{spelled}
 use Rattle.gp_scope.specs.Tables.{Hasher, value_in}

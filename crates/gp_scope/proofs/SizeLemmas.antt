@@ -7,7 +7,7 @@ use Rattle.std.specs.Map.{lookup, keys_of, values_of}
 use Rattle.indexmap.specs.IndexMap.{IndexMap, get_by, index_of_by, values}
 use Rattle.gp_tree.specs.declared.struct_decl.StructDecl.{StructDecl}
 use Rattle.gp_tree.specs.Program.{ProgramItem, struct_definition}
-use Rattle.gp_scope.specs.Levels.{fields_total, level_size}
+use Rattle.gp_scope.specs.code.Levels.{fields_total, level_size}
 use Rattle.gp_scope.specs.Tables.{Hasher, HasStructs, value_in}
 use Rattle.gp_scope.proofs.Levels.{level-none, level-suc}
 

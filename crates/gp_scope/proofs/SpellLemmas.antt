@@ -1,5 +1,5 @@
 -- Spelled types: their parts in memory, and their sizes.
-use Rattle.std.proofs.Common.{◌≡◌, ℕ, zero, suc, ◌+◌, ◌<◌, ◌≤◌, List, [], ◌∷◌, ◌++◌, map, length, get_or, take, add-one, refl, sym, ap, ap₂, ◌∙◌, arith}
+use Rattle.std.proofs.Common.{◌≡◌, Some, None, ℕ, zero, suc, ◌+◌, ◌<◌, ◌≤◌, List, [], ◌∷◌, ◌++◌, map, length, get_or, take, add-one, refl, sym, ap, ap₂, ◌∙◌, arith}
 use Rattle.gp_tree.specs.declared.type_expr.TypeExpr.{TypeExpr}
 use Rattle.gp_tree.specs.declared.struct_decl.FieldDecl.{FieldDecl}
 use Rattle.gp_tree.specs.Program.{field_definition}
@@ -8,6 +8,8 @@ use Rattle.gp_tree.specs.declared.type_expr.TypeExpr.TheFolds.{fold-roll-TypeExp
 use Rattle.gp_tree.specs.declared.type_expr.TypeExpr.TheOpen.{TypeExpr-F}
 use Rattle.gp_tree.specs.declared.type_expr.TypeExpr.TheVariants.{Tuple, rolls-Tuple}
 use Rattle.std.specs.declared.alloc.Global.{Global}
+use Rattle.std.specs.Rc.{rc_slice_items}
+use Rattle.std.specs.declared.rc.RcSlice.{RcSlice}
 use Rattle.std.specs.declared.vec.Vec.{Vec}
 use Rattle.gp_types.specs.declared.ty.Ty as declared_ty
 use Rattle.gp_types.specs.declared.ty.Field as declared_field
@@ -18,7 +20,9 @@ use Rattle.gp_types.specs.View.{ty_view, field_view, ty_step, field_step}
 use Rattle.gp_types.specs.Types as types
 use Rattle.gp_types.specs.Types.{Ty, tys_of, fields_of}
 use Rattle.gp_types.specs.Size.{size, total_size, total_field_size}
-use Rattle.gp_scope.specs.Spelled.{spelled_by, all_spelled_by, fields_spelled_by, spelled_field}
+use Rattle.gp_tree.specs.Program.{ProgramItem}
+use Rattle.gp_scope.specs.Definitions.{struct_named}
+use Rattle.gp_scope.specs.Spelled.{spelled_by, all_spelled_by, fields_spelled_by, spelled_field, basic_type, opened}
 
 pub spelled-items : (w : List ℕ → Ty) (xs : List TypeExpr) → tys_of (map (λ t. spelled_by w (type_expression t)) xs) ≡ all_spelled_by w (type_expressions xs)
 spelled-items w [] = refl
@@ -64,10 +68,10 @@ part-made f g made made' x xs i y pushed before h e same =
     ap (map f) pushed ∙ map-push f made x ∙ ap₂ (λ l z. l ++ z ∷ []) before same ∙ sym (map-take g xs i y h e) ∙ ap (λ k. map g (take k xs)) (sym (add-one i))
 
 -- types in memory, one level seen
-pub ty_view-Tuple : (items : Vec declared_ty.Ty Global) → ty_view (variants.Tuple items) ≡ types.Tuple (tys_of (map ty_view items.items))
+pub ty_view-Tuple : (items : RcSlice declared_ty.Ty Global) → ty_view (variants.Tuple items) ≡ types.Tuple (tys_of (map ty_view (rc_slice_items items)))
 ty_view-Tuple items = ap ty_view (sym (variants.rolls-Tuple items)) ∙ fold-roll-Ty types.Ty types.Field ty_step field_step (Ty-F.Tuple items)
 
-pub ty_view-Struct : (name : List ℕ) (fields : Vec declared_field.Field Global) → ty_view (variants.Struct name fields) ≡ types.Struct name (fields_of (map field_view fields.items))
+pub ty_view-Struct : (name : List ℕ) (fields : RcSlice declared_field.Field Global) → ty_view (variants.Struct name fields) ≡ types.Struct name (fields_of (map field_view (rc_slice_items fields)))
 ty_view-Struct name fields = ap ty_view (sym (variants.rolls-Struct name fields)) ∙ fold-roll-Ty types.Ty types.Field ty_step field_step (Ty-F.Struct name fields)
 
 pub field_view-made : (name : List ℕ) (ty : declared_ty.Ty) → field_view (record { name = name; ty = ty }) ≡ record { name = name; ty = ty_view ty }
@@ -75,3 +79,9 @@ field_view-made name ty = fold_out-Field types.Ty types.Field ty_step field_step
 
 pub type_expression-Tuple : (parts : Vec TypeExpr Global) → type_expression (Tuple parts) ≡ tuple_type (type_expressions parts.items)
 type_expression-Tuple parts = ap type_expression (sym (rolls-Tuple parts)) ∙ fold-roll-TypeExpr TypeExpression type_step (TypeExpr-F.Tuple parts)
+
+-- the type of a name that is no struct's
+pub opened-basic : (levels : ℕ) (program : List ProgramItem) (name : List ℕ) → struct_named program name ≡ None → opened levels program name ≡ basic_type name
+opened-basic zero program name e = refl
+opened-basic (suc levels) program name e =
+    ap (λ s. elim s [ None ↦ basic_type name | Some s ↦ types.Struct name (fields_spelled_by (opened levels program) s.fields) ]) e

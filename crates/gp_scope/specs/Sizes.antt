@@ -5,14 +5,15 @@ use Rattle.gp_tree.specs.Form.{Parameter}
 use Rattle.gp_tree.specs.Program.{ProgramItem, struct_item, function_item, FunctionDefinition}
 use Rattle.gp_tree.specs.TypeExpression.{TypeExpression, named_type}
 use Rattle.gp_types.specs.Size.{size}
+use Rattle.gp_types.specs.declared.limit.TheConstants.{TYPE_SIZE_LIMIT}
 use Rattle.gp_scope.specs.declared.fault.ScopeFault.TheVariants as fault
 use Rattle.gp_scope.specs.Checks.{Found, first, fault_where}
 use Rattle.gp_scope.specs.Annotations.{Annotation, annotations}
 use Rattle.gp_scope.specs.Spelled.{spelled}
 
--- the type that is written on this line has a size of more than 64
+-- the type that is written on this line has a size above the limit
 abbrev pub big_type_fault : List ProgramItem → LineNo → TypeExpression → Found
-big_type_fault program line t = fault_where (nat_lt 64 (size (spelled program t))) (fault.TooBigType line)
+big_type_fault program line t = fault_where (nat_lt TYPE_SIZE_LIMIT (size (spelled program t))) (fault.TooBigType line)
 
 abbrev pub big_parameters_fault : List ProgramItem → LineNo → List Parameter → Found
 big_parameters_fault program line [] = None

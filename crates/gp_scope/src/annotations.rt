@@ -3,7 +3,7 @@
 ghost use Rattle.std.specs.Prelude.{◌≡◌, ◌++◌, IfOk, OnOk, map};
 ghost use Rattle.gp_tree.specs.Statement.{statement, statements};
 ghost use Rattle.gp_scope.specs.Annotations as spec;
-ghost use Rattle.gp_scope.specs.AnnotationView.{annotation};
+ghost use Rattle.gp_scope.specs.code.AnnotationView.{annotation};
 
 use gp_base::LineNo;
 use gp_tree::{Stmt, TypeExpr};

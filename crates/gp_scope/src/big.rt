@@ -6,16 +6,17 @@ ghost use Rattle.gp_tree.specs.Program.{program_items, function_definition};
 ghost use Rattle.gp_tree.specs.TypeExpression.{type_expression, maybe_type, named_type};
 ghost use Rattle.gp_scope.specs.Checks.{Answers};
 ghost use Rattle.gp_scope.specs.Sizes as spec;
-ghost use Rattle.gp_scope.specs.SizesOf.{AreSizes};
-ghost use Rattle.gp_scope.specs.NamesOf.{AreNames};
-ghost use Rattle.gp_scope.specs.AnnotationView.{annotation};
+ghost use Rattle.gp_scope.specs.code.SizesOf.{AreSizes};
+ghost use Rattle.gp_scope.specs.code.NamesOf.{AreNames};
+ghost use Rattle.gp_scope.specs.code.AnnotationView.{annotation};
 
 use crate::annotations::{Annotation, annotations};
 use crate::fault::ScopeFault;
 use crate::names::{Names, value_of};
-use crate::sizes::{LIMIT, written_size};
+use crate::sizes::written_size;
 use gp_base::LineNo;
 use gp_tree::{Function, Item, Param, TypeExpr};
+use gp_types::TYPE_SIZE_LIMIT;
 use std::alloc::Global;
 
 /// Each struct, parameter, result and annotated assignment in turn has a type within the limit.
@@ -37,7 +38,7 @@ fn check_struct(names: &Names, sizes: &[u64], line: LineNo, name: &str) -> Resul
     requires { AreSizes names.now sizes.now }
     ensures { Answers result (spec.big_type_fault (program_items names.now.items.now) line (named_type name.now)) }
 {
-    if value_of(names, sizes, name) > LIMIT {
+    if value_of(names, sizes, name) > TYPE_SIZE_LIMIT {
         return Err(ScopeFault::TooBigType(line));
     }
     Ok(())
@@ -106,7 +107,7 @@ fn check_type(names: &Names, sizes: &[u64], line: LineNo, ty: &TypeExpr) -> Resu
     requires { AreSizes names.now sizes.now }
     ensures { Answers result (spec.big_type_fault (program_items names.now.items.now) line (type_expression ty.now)) }
 {
-    if written_size(names, sizes, ty) > LIMIT {
+    if written_size(names, sizes, ty) > TYPE_SIZE_LIMIT {
         return Err(ScopeFault::TooBigType(line));
     }
     Ok(())

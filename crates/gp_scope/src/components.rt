@@ -3,9 +3,9 @@
 use crate::cycles::add_held;
 use crate::names::Names;
 use gp_base::Sequence;
-use gp_components::component_numbers;
 use gp_tree::StructDecl;
 use std::alloc::{AllocError, Global};
+use walks::component_numbers;
 
 /// The numbers of the components of the structs, by the structs' places in the table of structs: from 1 on, in an order
 /// in which a component comes after those that it leads to.

@@ -8,11 +8,11 @@ ghost use Rattle.gp_tree.specs.TypeExpression.{type_expression, type_expressions
 ghost use Rattle.gp_scope.specs.Checks.{is_among};
 ghost use Rattle.gp_scope.specs.Definitions.{structs_in};
 ghost use Rattle.gp_scope.specs.Cycles as spec;
-ghost use Rattle.gp_scope.specs.Components as components;
-ghost use Rattle.gp_scope.specs.EachName.{each_name, each_name_of, each_field_name};
+ghost use Rattle.gp_scope.specs.code.Components as components;
+ghost use Rattle.gp_scope.specs.code.EachName.{each_name, each_name_of, each_field_name};
 ghost use Rattle.gp_scope.specs.FirstFault.{CyclesAnswer};
 ghost use Rattle.gp_scope.specs.Tables.{struct_at, texts_of, value_in};
-ghost use Rattle.gp_scope.specs.NamesOf.{AreNames};
+ghost use Rattle.gp_scope.specs.code.NamesOf.{AreNames};
 
 use crate::components::struct_components;
 use crate::definitions::struct_table;

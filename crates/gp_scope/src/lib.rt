@@ -9,17 +9,14 @@ mod cycles;
 mod definitions;
 pub mod fault;
 mod imports;
+pub mod laws;
 pub mod modules;
 mod names;
 mod parts;
 mod phase;
-#[cfg(test)]
-mod programs;
 pub mod scope;
 mod sizes;
 mod tables;
-#[cfg(test)]
-mod tests;
 mod types;
 
 pub use fault::ScopeFault;

@@ -6,8 +6,8 @@ ghost use Rattle.gp_tree.specs.Program.{program_items, field_definition, functio
 ghost use Rattle.gp_tree.specs.TypeExpression.{type_expression, type_expressions, maybe_type};
 ghost use Rattle.gp_scope.specs.Checks.{Answers};
 ghost use Rattle.gp_scope.specs.Parts as spec;
-ghost use Rattle.gp_scope.specs.NamesOf.{AreNames};
-ghost use Rattle.gp_scope.specs.AnnotationView.{annotation};
+ghost use Rattle.gp_scope.specs.code.NamesOf.{AreNames};
+ghost use Rattle.gp_scope.specs.code.AnnotationView.{annotation};
 
 use crate::annotations::{Annotation, annotations};
 use crate::fault::ScopeFault;

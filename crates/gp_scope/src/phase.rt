@@ -3,10 +3,11 @@
 ghost use Rattle.std.specs.Prelude.{◌≡◌, ℕ, List, IfOk, None, nat_lt};
 ghost use Rattle.std.specs.List.{list_any};
 ghost use Rattle.gp_tree.specs.Program.{program_items};
-ghost use Rattle.gp_scope.specs.Collected.{CollectAnswer, NamesAnswer};
+ghost use Rattle.gp_scope.specs.Collected.{CollectAnswer};
+ghost use Rattle.gp_scope.specs.code.NamesAnswer.{NamesAnswer};
 ghost use Rattle.gp_scope.specs.FirstFault.{CyclesAnswer, names_fault};
-ghost use Rattle.gp_scope.specs.Levels.{level_size};
-ghost use Rattle.gp_scope.specs.NamesOf.{AreNames, AreWhole};
+ghost use Rattle.gp_scope.specs.code.Levels.{level_size};
+ghost use Rattle.gp_scope.specs.code.NamesOf.{AreNames, AreWhole};
 ghost use Rattle.gp_scope.specs.ScopeView.{IsScopeOf};
 ghost use Rattle.gp_scope.specs.Tables.{value_in};
 
@@ -18,9 +19,10 @@ use crate::imports::{check_imports, imported_names};
 use crate::names::Names;
 use crate::parts::check_parts;
 use crate::scope::Scope;
-use crate::sizes::{LIMIT, struct_sizes};
+use crate::sizes::struct_sizes;
 use crate::tables::{annotated_types, function_count, signatures, struct_types};
 use gp_tree::{Item, Program};
+use gp_types::TYPE_SIZE_LIMIT;
 use std::alloc::{AllocError, Global};
 
 /// The scope of a program, or the first fault of its names.
@@ -76,7 +78,7 @@ fn check_types(alloc: Global, names: Names) -> Result<Scope, ScopeFault>
 // No struct holds itself. Where every size is within the limit none can.
 fn check_depth(alloc: Global, names: &Names, sizes: &[u64]) -> Result<(), ScopeFault>
     requires tables { AreNames names.now }
-    requires levels { (name : List ℕ) → value_in names.now.structs sizes.now name ≡ level_size LIMIT (program_items names.now.items.now) name }
+    requires levels { (name : List ℕ) → value_in names.now.structs sizes.now name ≡ level_size TYPE_SIZE_LIMIT (program_items names.now.items.now) name }
     ensures { CyclesAnswer (program_items names.now.items.now) result }
 {
     if is_any_above(sizes) {
@@ -89,7 +91,7 @@ fn is_any_above(sizes: &[u64]) -> bool
     ensures { result ≡ list_any (λ size. nat_lt 64 size) sizes.now }
 {
     for size in sizes {
-        if *size > LIMIT {
+        if *size > TYPE_SIZE_LIMIT {
             return true;
         }
     }

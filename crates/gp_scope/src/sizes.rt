@@ -5,16 +5,14 @@ ghost use Rattle.indexmap.specs.IndexMap.{values, index_map_len};
 ghost use Rattle.gp_tree.specs.Form.{parameter};
 ghost use Rattle.gp_tree.specs.Program.{program_items, field_definition, struct_definition, function_definition};
 ghost use Rattle.gp_tree.specs.TypeExpression.{type_expression, type_expressions, maybe_type};
-ghost use Rattle.gp_scope.specs.Levels.{size_by, total_by, fields_total, level_size};
+ghost use Rattle.gp_scope.specs.code.Levels.{size_by, total_by, fields_total, level_size};
 ghost use Rattle.gp_scope.specs.Tables.{value_in};
-ghost use Rattle.gp_scope.specs.NamesOf.{AreNames};
+ghost use Rattle.gp_scope.specs.code.NamesOf.{AreNames};
 
 use crate::names::{Names, value_of};
 use gp_tree::{FieldDecl, TypeExpr};
+use gp_types::TYPE_SIZE_LIMIT;
 use std::alloc::{AllocError, Global};
-
-/// The limit on the size of one type.
-pub const LIMIT: u64 = 64;
 
 // What stands for every size above the limit.
 const ABOVE: u64 = 65;
@@ -26,10 +24,10 @@ const ABOVE: u64 = 65;
 /// whole size.
 pub fn struct_sizes(alloc: Global, names: &Names) -> Result<Vec<u64>, AllocError>
     requires { AreNames names.now }
-    ensures { IfOk result (λ sizes. (name : List ℕ) → value_in names.now.structs sizes.items name ≡ level_size LIMIT (program_items names.now.items.now) name) }
+    ensures { IfOk result (λ sizes. (name : List ℕ) → value_in names.now.structs sizes.items name ≡ level_size TYPE_SIZE_LIMIT (program_items names.now.items.now) name) }
 {
     let mut sizes = Vec::new(alloc);
-    for _round in 0..LIMIT {
+    for _round in 0..TYPE_SIZE_LIMIT {
         sizes = next_sizes(alloc, names, &sizes)?;
     }
     Ok(sizes)

@@ -7,9 +7,9 @@ ghost use Rattle.gp_base.specs.declared.name.LineNo.{LineNo};
 ghost use Rattle.gp_tree.specs.Program.{program_items};
 ghost use Rattle.gp_types.specs.View.{ty_view};
 ghost use Rattle.gp_types.specs.Signature.{signature_view};
-ghost use Rattle.gp_scope.specs.AnnotationView.{annotation};
+ghost use Rattle.gp_scope.specs.code.AnnotationView.{annotation};
 ghost use Rattle.gp_scope.specs.Definitions.{functions_in};
-ghost use Rattle.gp_scope.specs.NamesOf.{AreWhole};
+ghost use Rattle.gp_scope.specs.code.NamesOf.{AreWhole};
 ghost use Rattle.gp_scope.specs.Spelled.{spelled, struct_type_of, function_signature, annotated_type};
 
 use crate::annotations::{Annotation, annotations};
@@ -31,7 +31,7 @@ pub fn struct_types(alloc: Global, names: &Names) -> Result<IndexMap<String, Ty>
             Item::Import(_) => {}
             Item::Function(_) => {}
             Item::Struct(decl) => {
-                let ty = spell_name(alloc, names, decl.name.as_str())?;
+                let ty = spell_name(alloc, names, &decl.name)?;
                 keep_first(alloc, &mut table, decl.name.as_str(), ty)?;
             }
         }

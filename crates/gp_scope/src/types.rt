@@ -8,7 +8,7 @@ ghost use Rattle.gp_types.specs.View.{ty_view, field_view};
 ghost use Rattle.gp_types.specs.Signature.{parameter_view, signature_view};
 ghost use Rattle.gp_scope.specs.Spelled.{spelled, spelled_by, spelled_field, parameter_of, signature_of};
 ghost use Rattle.gp_scope.specs.Spelled as spec;
-ghost use Rattle.gp_scope.specs.NamesOf.{AreWhole, whole};
+ghost use Rattle.gp_scope.specs.code.NamesOf.{AreWhole, whole};
 
 use crate::names::Names;
 use gp_base::{Name, Sequence};
@@ -23,23 +23,24 @@ pub fn spell(alloc: Global, names: &Names, ty: &TypeExpr) -> Result<Ty, AllocErr
     ensures { IfOk result (λ made. ty_view made ≡ spelled (program_items names.now.items.now) (type_expression ty.now)) }
 {
     match ty {
-        TypeExpr::Named(name) => spell_name(alloc, names, name.as_str()),
-        TypeExpr::Tuple(items) => Ok(Ty::Tuple(spell_items(alloc, names, items)?)),
+        TypeExpr::Named(name) => spell_name(alloc, names, name),
+        TypeExpr::Tuple(items) => Ty::tuple(spell_items(alloc, names, items)?),
     }
 }
 
 /// The type of a name: that of a struct, else `int`, `bool` or `qubit`.
 #[cycle(spell)]
-pub fn spell_name(alloc: Global, names: &Names, name: &str) -> Result<Ty, AllocError>
+pub fn spell_name(alloc: Global, names: &Names, name: &Name) -> Result<Ty, AllocError>
     requires { AreWhole names.now }
     ensures { IfOk result (λ made. ty_view made ≡ spelled (program_items names.now.items.now) (named_type name.now)) }
 {
-    match names.structs.get(name) {
-        Some(decl) => Ok(Ty::Struct(
-            Name::new(alloc, name)?,
-            spell_fields(alloc, names, decl.fields.as_slice())?,
-        )),
-        None => Ok(basic_type(name)),
+    let text = name.as_str();
+    match names.structs.get(text) {
+        Some(decl) => {
+            let fields = spell_fields(alloc, names, decl.fields.as_slice())?;
+            Ty::structure(name.copy()?, fields)
+        }
+        None => Ok(basic_type(text)),
     }
 }
 
@@ -73,7 +74,7 @@ fn spell_fields(alloc: Global, names: &Names, fields: &[FieldDecl]) -> Result<Fi
     let mut made = Vec::new(alloc);
     for field in fields {
         made.push(Field {
-            name: Name::new(alloc, field.name.as_str())?,
+            name: field.name.copy()?,
             ty: spell(alloc, names, &field.ty)?,
         })?;
     }
@@ -116,7 +117,7 @@ fn parameters(alloc: Global, names: &Names, params: &[Param]) -> Result<SigParam
         let ty = spell(alloc, names, &param.ty)?;
         let mode = Mode::of(&ty, param.owned);
         made.push(SigParam {
-            name: Name::new(alloc, param.name.as_str())?,
+            name: param.name.copy()?,
             ty,
             mode,
         })?;

@@ -2,36 +2,17 @@
 
 ghost use Rattle.std.specs.Prelude.{◌≡◌, IfOk};
 
-use gp_base::{Name, Names, Sequence, TextBytes};
+use gp_base::TextBytes;
 use std::alloc::{AllocError, Global};
 
 /// The same text once more.
 pub fn copy_text(alloc: Global, text: &TextBytes) -> Result<TextBytes, AllocError>
     ensures { IfOk result (λ copy. copy ≡ text.now) }
 {
-    let mut copy = Sequence::new(alloc);
+    let mut copy = TextBytes::new(alloc);
     let bytes = text.as_slice();
     for byte in bytes {
         copy.push(*byte)?;
-    }
-    Ok(copy)
-}
-
-/// The same name once more.
-pub fn copy_name(alloc: Global, name: &Name) -> Result<Name, AllocError>
-    ensures { IfOk result (λ copy. copy ≡ name.now) }
-{
-    Name::new(alloc, name.as_str())
-}
-
-/// The same names once more, in their order.
-pub fn copy_names(alloc: Global, names: &Names) -> Result<Names, AllocError>
-    ensures { IfOk result (λ copy. copy ≡ names.now) }
-{
-    let mut copy = Sequence::new(alloc);
-    let all = names.as_slice();
-    for name in all {
-        copy.push(copy_name(alloc, name)?)?;
     }
     Ok(copy)
 }

@@ -19,7 +19,7 @@ pub struct Param {
 pub type Params = Sequence<Param>;
 
 /// A function that is marked `@guppy`.
-#[derive(Debug, Drop)]
+#[derive(Drop)]
 pub struct Function {
     /// The line of its `def`.
     pub line: LineNo,

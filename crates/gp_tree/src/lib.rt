@@ -16,7 +16,7 @@ pub mod stmt;
 pub mod struct_decl;
 pub mod type_expr;
 
-pub use copies::{copy_name, copy_names, copy_text};
+pub use copies::copy_text;
 pub use expr::{BinOp, Expr, Exprs};
 pub use function::{Function, Param, Params};
 pub use line_form::LineForm;
@@ -25,6 +25,3 @@ pub use program::{Import, Item, Program};
 pub use stmt::{Block, Stmt};
 pub use struct_decl::{FieldDecl, FieldDecls, StructDecl};
 pub use type_expr::{TypeExpr, TypeExprs};
-
-#[cfg(test)]
-mod tests;

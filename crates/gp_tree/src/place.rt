@@ -2,7 +2,6 @@
 
 ghost use Rattle.std.specs.Prelude.{◌≡◌, IfOk};
 
-use crate::copies::{copy_name, copy_names};
 use gp_base::{Name, Names, Sequence};
 use std::alloc::{AllocError, Global};
 
@@ -20,9 +19,13 @@ impl Place {
     pub fn copy(&self, alloc: Global) -> Result<Place, AllocError>
         ensures { IfOk result (λ copy. copy ≡ self.now) }
     {
+        let mut fields = Names::new(alloc);
+        for field in self.fields.as_slice() {
+            fields.push(field.copy()?)?;
+        }
         Ok(Place {
-            name: copy_name(alloc, &self.name)?,
-            fields: copy_names(alloc, &self.fields)?,
+            name: self.name.copy()?,
+            fields,
         })
     }
 }
@@ -39,17 +42,6 @@ pub enum Targets {
     Pattern(Places),
 }
 
-fn copy_places(alloc: Global, places: &Places) -> Result<Places, AllocError>
-    ensures { IfOk result (λ copy. copy ≡ places.now) }
-{
-    let mut copy = Sequence::new(alloc);
-    let all = places.as_slice();
-    for place in all {
-        copy.push(place.copy(alloc)?)?;
-    }
-    Ok(copy)
-}
-
 impl Targets {
     /// The same targets once more.
     pub fn copy(&self, alloc: Global) -> Result<Targets, AllocError>
@@ -57,7 +49,13 @@ impl Targets {
     {
         match self {
             Targets::One(place) => Ok(Targets::One(place.copy(alloc)?)),
-            Targets::Pattern(places) => Ok(Targets::Pattern(copy_places(alloc, places)?)),
+            Targets::Pattern(places) => {
+                let mut copies = Places::new(alloc);
+                for place in places.as_slice() {
+                    copies.push(place.copy(alloc)?)?;
+                }
+                Ok(Targets::Pattern(copies))
+            }
         }
     }
 }

@@ -16,7 +16,7 @@ pub struct Import {
 }
 
 /// An item of a program. Docstrings, `pass` lines and module calls at the top are none.
-#[derive(Debug, Drop)]
+#[derive(Drop)]
 pub enum Item {
     /// An import line.
     Import(Import),

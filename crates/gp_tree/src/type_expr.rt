@@ -3,7 +3,6 @@
 ghost use Rattle.std.specs.Prelude.{◌≡◌, IfOk};
 ghost use Rattle.gp_tree.specs.TypeExpression.{type_expression};
 
-use crate::copies::copy_name;
 use gp_base::Name;
 use std::alloc::{AllocError, Global};
 
@@ -25,7 +24,7 @@ impl TypeExpr {
         ensures { IfOk result (λ copy. type_expression copy ≡ type_expression self.now) }
     {
         match self {
-            TypeExpr::Named(name) => Ok(TypeExpr::Named(copy_name(alloc, name)?)),
+            TypeExpr::Named(name) => Ok(TypeExpr::Named(name.copy()?)),
             TypeExpr::Tuple(parts) => {
                 let mut copies = TypeExprs::new(alloc);
                 for part in parts {

@@ -2,16 +2,15 @@
 #![tactic(auto)]
 
 pub mod builtins;
+pub mod limit;
 pub mod names;
 pub mod same;
 pub mod signature;
 pub mod ty;
 
 pub use builtins::{Builtin, BuiltinParameter, BuiltinType};
+pub use limit::TYPE_SIZE_LIMIT;
 pub use names::builtin;
-pub use same::{copy, same_type};
+pub use same::{same_type, same_types};
 pub use signature::{Mode, SigParam, SigParams, Signature};
 pub use ty::{Field, Fields, Ty, Tys, is_linear, leaf_count, size};
-
-#[cfg(test)]
-mod tests;

@@ -1,6 +1,7 @@
 //! Types, and what follows from them alone: whether they are linear, their size and how many leaves they have.
 
-ghost use Rattle.std.specs.Prelude.{◌≡◌, ◌+◌, ◌-◌, ◌^◌, length, map, min};
+ghost use Rattle.std.specs.Prelude.{◌≡◌, ◌+◌, ◌-◌, ◌^◌, IfOk, length, map, min};
+ghost use Rattle.gp_types.specs.Types as types;
 ghost use Rattle.gp_types.specs.Types.{tys_of, fields_of};
 ghost use Rattle.gp_types.specs.View.{ty_view, field_view};
 ghost use Rattle.gp_types.specs.Linear as spec;
@@ -8,8 +9,10 @@ ghost use Rattle.gp_types.specs.Size as sizes;
 ghost use Rattle.gp_types.specs.Leaves.{leaves, field_leaves};
 
 use gp_base::Name;
+use std::alloc::AllocError;
+use std::rc::RcSlice;
 
-/// A type of the source language.
+/// A type of the source language. Its copies share its parts.
 #[derive(Debug, Drop)]
 #[cycle(ty)]
 pub enum Ty {
@@ -20,9 +23,9 @@ pub enum Ty {
     /// `qubit`: a qubit, which is used exactly once.
     Qubit,
     /// `tuple[..]`: the values of these types, in order.
-    Tuple(Tys),
+    Tuple(RcSlice<Ty>),
     /// A struct, by its name, with its fields in order.
-    Struct(Name, Fields),
+    Struct(Name, RcSlice<Field>),
 }
 
 /// A list of types.
@@ -40,6 +43,35 @@ pub struct Field {
 
 /// A list of fields, in the order in which the struct declares them.
 pub type Fields = Vec<Field>;
+
+impl Ty {
+    /// `tuple[..]` of parts with these types.
+    pub fn tuple(parts: Tys) -> Result<Ty, AllocError>
+        ensures { IfOk result (λ made. ty_view made ≡ types.Tuple (tys_of (map ty_view parts.items))) }
+    {
+        Ok(Ty::Tuple(RcSlice::from_vec(parts)?))
+    }
+
+    /// The struct of this name with these fields.
+    pub fn structure(name: Name, fields: Fields) -> Result<Ty, AllocError>
+        ensures { IfOk result (λ made. ty_view made ≡ types.Struct name (fields_of (map field_view fields.items))) }
+    {
+        Ok(Ty::Struct(name, RcSlice::from_vec(fields)?))
+    }
+
+    /// The same type once more. It shares its parts, so this takes no memory; it fails only past 2^64 - 1 copies.
+    pub fn copy(&self) -> Result<Ty, AllocError>
+        ensures { IfOk result (λ copy. ty_view copy ≡ ty_view self.now) }
+    {
+        match self {
+            Ty::Int => Ok(Ty::Int),
+            Ty::Bool => Ok(Ty::Bool),
+            Ty::Qubit => Ok(Ty::Qubit),
+            Ty::Tuple(parts) => Ok(Ty::Tuple(parts.clone()?)),
+            Ty::Struct(name, fields) => Ok(Ty::Struct(name.copy()?, fields.clone()?)),
+        }
+    }
+}
 
 /// Whether values of the type hold a qubit, so that each is used exactly once: `qubit`, and a tuple or a struct with
 /// a linear part. Takes no memory.

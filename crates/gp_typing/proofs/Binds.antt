@@ -17,14 +17,16 @@ use Rattle.gp_types.specs.Types as types
 use Rattle.gp_typing.specs.declared.context.Context.{Context}
 use Rattle.gp_typing.specs.declared.fault.TypeFault.{TypeFault}
 use Rattle.gp_typing.specs.declared.fault.TypeFault.TheVariants.{Memory, Mismatch, UnknownName}
-use Rattle.gp_typing.specs.CallView.{callee_in, tag_of}
+use Rattle.gp_typing.specs.code.CallView.{call_in, callee_in, tag_of}
 use Rattle.gp_typing.specs.Checks.{Checked, ◌>>=◌, check, found, Answers}
-use Rattle.gp_environment.specs.Environment.{Names, Environment}
-use Rattle.gp_typing.specs.Expressions.{Value, Values, Arguments, Callee, valued, before, untagged, has_type, tupled, takes_tag, is_tag, called, tags, typing, values_of, arguments_of}
-use Rattle.gp_typing.specs.ExpressionView.{typed_in, valued_in, values_in}
+use Rattle.gp_locals.specs.Callee.{Callee, takes_tag}
+use Rattle.gp_locals.specs.Environment.{Names, Environment}
+use Rattle.gp_locals.specs.Tag.{is_tag}
+use Rattle.gp_typing.specs.Expressions.{Value, Values, Arguments, valued, before, untagged, has_type, tupled, called, tags, typing, values_of, arguments_of}
+use Rattle.gp_typing.specs.code.ExpressionView.{typed_in, valued_in, values_in}
 use Rattle.gp_scope.specs.Known.{Known}
 use Rattle.gp_scope.specs.ScopeView.{known_in}
-use Rattle.gp_typing.specs.Operations.{place_of, minus_of, negation_of, binary_of, both_of, either_of, choice_of}
+use Rattle.gp_typing.specs.code.Operations.{place_of, minus_of, negation_of, binary_of, both_of, either_of, choice_of}
 use Rattle.gp_typing.specs.Typed as typed
 use Rattle.gp_typing.proofs.Rows.{values_before, values_before-push, values_before-end, drop-at, drop-all}
 use Rattle.gp_typing.specs.View.{expressions_of}
@@ -130,9 +132,7 @@ choice-typed C e c a b is = ap (λ x. typed_in C (expression x)) (is ∙ sym (va
 pub tuple-typed : (C : Context) (e : Expr) (es : Vec Expr Global) → e ≡ variants.Tuple es → typed_in C (expression e) ≡ (values_in C (expressions es.items) >>= λ vs. tupled C.line vs)
 tuple-typed C e es is = ap (λ x. typed_in C (expression x)) (is ∙ sym (variants.rolls-Tuple es)) ∙ ap (typed_in C) (fold-roll-Expr Expression expression_step (Expr-F.Tuple es))
 
-pub call-typed : (C : Context) (e : Expr) (name : List ℕ) (es : Vec Expr Global) → e ≡ variants.Call name es → typed_in C (expression e) ≡ (found (callee_in C name) (UnknownName C.line)
-    >>= λ callee. arguments_of (known_in C.scope.now) C.names.now C.environment.now C.line (takes_tag callee) (expressions es.items)
-    >>= λ arguments. called C.line name callee arguments)
+pub call-typed : (C : Context) (e : Expr) (name : List ℕ) (es : Vec Expr Global) → e ≡ variants.Call name es → typed_in C (expression e) ≡ call_in C name (expressions es.items)
 call-typed C e name es is = ap (λ x. typed_in C (expression x)) (is ∙ sym (variants.rolls-Call name es)) ∙ ap (typed_in C) (fold-roll-Expr Expression expression_step (Expr-F.Call name es))
 
 -- ---- the arguments of a call
@@ -197,35 +197,35 @@ module _ (K : Known) (N : Names) (E : Environment) (line : LineNo) where
 abbrev arguments-of-call : Context → Bool → List Expr → Checked Arguments
 arguments-of-call C tagged xs = arguments_of (known_in C.scope.now) C.names.now C.environment.now C.line tagged (expressions xs)
 
-module _ (C : Context) (e : Expr) (name : List ℕ) (es : Vec Expr Global) (is : e ≡ variants.Call name es) where
-  pub call-none : None ≡ callee_in C name → typed_in C (expression e) ≡ Err (UnknownName C.line)
-  call-none h = call-typed C e name es is ∙ ap (λ m. found m (UnknownName C.line)
-      >>= λ callee. arguments-of-call C (takes_tag callee) es.items >>= λ arguments. called C.line name callee arguments) (sym h)
+module _ (C : Context) (name : List ℕ) (xs : List Expr) where
+  pub call-none : None ≡ callee_in C name → call_in C name (expressions xs) ≡ Err (UnknownName C.line)
+  call-none h = ap (λ m. found m (UnknownName C.line)
+      >>= λ callee. arguments-of-call C (takes_tag callee) xs >>= λ arguments. called C.line name callee arguments) (sym h)
 
   module _ (callee : Callee) (known : Some callee ≡ callee_in C name) where
-    found-callee : typed_in C (expression e) ≡ (arguments-of-call C (takes_tag callee) es.items >>= λ arguments. called C.line name callee arguments)
-    found-callee = call-typed C e name es is ∙ ap (λ m. found m (UnknownName C.line)
-        >>= λ callee. arguments-of-call C (takes_tag callee) es.items >>= λ arguments. called C.line name callee arguments) (sym known)
+    found-callee : call_in C name (expressions xs) ≡ (arguments-of-call C (takes_tag callee) xs >>= λ arguments. called C.line name callee arguments)
+    found-callee = ap (λ m. found m (UnknownName C.line)
+        >>= λ callee. arguments-of-call C (takes_tag callee) xs >>= λ arguments. called C.line name callee arguments) (sym known)
 
     abbrev after-tag : Option (List ℕ) → Checked Arguments
-    after-tag tag = values_in C (expressions (drop (tags tag) es.items)) >>= λ values. Ok (record { tag = tag; values = values })
+    after-tag tag = values_in C (expressions (drop (tags tag) xs)) >>= λ values. Ok (record { tag = tag; values = values })
 
-    in-steps : typed_in C (expression e) ≡ ((tag_of C.line (takes_tag callee) (expressions es.items) >>= after-tag) >>= λ arguments. called C.line name callee arguments)
+    in-steps : call_in C name (expressions xs) ≡ ((tag_of C.line (takes_tag callee) (expressions xs) >>= after-tag) >>= λ arguments. called C.line name callee arguments)
     in-steps = found-callee ∙ ap (λ m. m >>= λ arguments. called C.line name callee arguments)
-        (arguments-in (known_in C.scope.now) C.names.now C.environment.now C.line (takes_tag callee) es.items)
+        (arguments-in (known_in C.scope.now) C.names.now C.environment.now C.line (takes_tag callee) xs)
 
-    pub call-no-tag : (f : TypeFault) → tag_of C.line (takes_tag callee) (expressions es.items) ≡ Err f → typed_in C (expression e) ≡ Err f
+    pub call-no-tag : (f : TypeFault) → tag_of C.line (takes_tag callee) (expressions xs) ≡ Err f → call_in C name (expressions xs) ≡ Err f
     call-no-tag f h = in-steps ∙ ap (λ m. (m >>= after-tag) >>= λ arguments. called C.line name callee arguments) h
 
-    pub call-no-values : (tag : Option (List ℕ)) → tag_of C.line (takes_tag callee) (expressions es.items) ≡ Ok tag
-        → (f : TypeFault) → values_in C (expressions (drop (tags tag) es.items)) ≡ Err f → typed_in C (expression e) ≡ Err f
+    pub call-no-values : (tag : Option (List ℕ)) → tag_of C.line (takes_tag callee) (expressions xs) ≡ Ok tag
+        → (f : TypeFault) → values_in C (expressions (drop (tags tag) xs)) ≡ Err f → call_in C name (expressions xs) ≡ Err f
     call-no-values tag h f v =
         in-steps ∙ ap (λ m. (m >>= after-tag) >>= λ arguments. called C.line name callee arguments) h
         ∙ ap (λ m. (m >>= λ values. Ok (record { tag = tag; values = values })) >>= λ arguments. called C.line name callee arguments) v
 
-    pub call-called : (tag : Option (List ℕ)) → tag_of C.line (takes_tag callee) (expressions es.items) ≡ Ok tag
-        → (values : Values) → values_in C (expressions (drop (tags tag) es.items)) ≡ Ok values
-        → typed_in C (expression e) ≡ called C.line name callee (record { tag = tag; values = values })
+    pub call-called : (tag : Option (List ℕ)) → tag_of C.line (takes_tag callee) (expressions xs) ≡ Ok tag
+        → (values : Values) → values_in C (expressions (drop (tags tag) xs)) ≡ Ok values
+        → call_in C name (expressions xs) ≡ called C.line name callee (record { tag = tag; values = values })
     call-called tag h values v =
         in-steps ∙ ap (λ m. (m >>= after-tag) >>= λ arguments. called C.line name callee arguments) h
         ∙ ap (λ m. (m >>= λ values. Ok (record { tag = tag; values = values })) >>= λ arguments. called C.line name callee arguments) v

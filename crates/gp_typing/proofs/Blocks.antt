@@ -1,5 +1,5 @@
 -- The definition of statements in its pieces, and blocks that get their statements one after another.
-use Rattle.std.proofs.Common.{◌≡◌, ℕ, not, Bool, true, false, List, [], ◌∷◌, ◌++◌, Option, Some, None, Ok, Err, refl, sym, ap, ◌∙◌}
+use Rattle.std.proofs.Common.{◌≡◌, ℕ, not, Bool, true, false, List, [], ◌∷◌, ◌++◌, Option, Some, None, Ok, Err, refl, sym, ap}
 use Rattle.gp_base.specs.declared.name.LineNo.{LineNo}
 use Rattle.gp_tree.specs.Expression.{Expression}
 use Rattle.gp_tree.specs.TypeExpression.{TypeExpression}
@@ -10,11 +10,11 @@ use Rattle.gp_tree.specs.Statement.{Statement, Statements}
 use Rattle.gp_typing.specs.declared.fault.TypeFault.{TypeFault}
 use Rattle.gp_typing.specs.declared.fault.TypeFault.TheVariants.{Mismatch, TooManyPlaces, BorrowedAssigned}
 use Rattle.gp_typing.specs.Checks.{Checked, ◌>>=◌, check, found}
-use Rattle.gp_environment.specs.Environment.{Environment, is_within, put}
+use Rattle.gp_locals.specs.Environment.{Environment, is_within, put}
 use Rattle.gp_typing.specs.Expressions.{Value, is_bool, is_int, typing, valued}
 use Rattle.gp_scope.specs.Known.{Known}
-use Rattle.gp_typing.specs.Pieces.{tested, counted, ended_annotated, append_statements, joined_block, with_last, next_of, continued}
-use Rattle.gp_typing.specs.Statements.{Frame, Ends, StatementTyping, BlockTyping, block_typing, first_of_block, goes_on, line_of, statement_typing, typed_as}
+use Rattle.gp_typing.specs.code.Pieces.{tested, counted, ended_annotated, append_statements, joined_block, with_last, next_of, continued}
+use Rattle.gp_typing.specs.Statements.{Frame, StatementTyping, BlockTyping, block_typing, first_of_block, goes_on, line_of, statement_typing, typed_as}
 use Rattle.gp_typing.specs.Typed as typed
 use Rattle.gp_typing.specs.Typed.{TypedExpression, TypedStatement, TypedStatements, no_statements, with_statement}
 use Rattle.gp_typing.specs.View.{statements_of}

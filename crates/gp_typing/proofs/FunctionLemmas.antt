@@ -1,17 +1,15 @@
 -- Functions in pieces.
-use Rattle.std.proofs.Common.{◌≡◌, ◌∙◌, ap, sym, ℕ, List, [], ◌∷◌, map, Bool, true, false, ◌&&◌, not, Option, Some, None, Ok, Err, refl, is_some}
+use Rattle.std.proofs.Common.{◌≡◌, ◌∙◌, ap, sym, ℕ, List, Bool, true, false, ◌&&◌, not, Option, Some, None, Ok, Err, refl, is_some}
 use Rattle.gp_tree.specs.Program.{FunctionDefinition}
-use Rattle.gp_types.specs.declared.signature.SigParam.{SigParam}
-use Rattle.gp_types.specs.Signature.{Signature, Parameter, parameter_view}
+use Rattle.gp_types.specs.Signature.{Signature}
 use Rattle.gp_typing.specs.declared.fault.TypeFault.{TypeFault}
 use Rattle.gp_typing.specs.declared.fault.TypeFault.TheVariants.{UnknownName, TooManyPlaces, MissingReturn}
 use Rattle.gp_typing.specs.Checks.{Checked, ◌>>=◌, check, found}
-use Rattle.gp_environment.specs.Environment.{Names, Environment, nothing_usable, is_within}
-use Rattle.gp_typing.specs.FunctionView.{body_typing}
+use Rattle.gp_locals.specs.Environment.{Names, Environment, nothing_usable, is_within}
+use Rattle.gp_typing.specs.code.FunctionView.{body_typing}
 use Rattle.gp_typing.specs.Functions.{at_start, frame_of, function_typing, names_of, with_parameters, is_borrowed_among}
 use Rattle.gp_scope.specs.Known.{Known}
 use Rattle.gp_typing.specs.Statements.{Frame, BlockTyping, block_typing, block_of}
-use Rattle.gp_environment.specs.Locals.{parameter_name}
 use Rattle.gp_typing.specs.Typed.{TypedBlock, TypedFunction}
 
 abbrev pub whole : FunctionDefinition → Signature → TypedBlock → Checked TypedFunction
@@ -74,10 +72,6 @@ module _ (known : Known) (f : FunctionDefinition) (s : Signature) (names : Names
 
   pub function_ok : (body : TypedBlock) → body_typing known (frame_with names) f.line e f.body ≡ Ok body → function_typing known f ≡ whole f s body
   function_ok body h = function_from ∙ ap (λ (m : Checked TypedBlock). m >>= λ body. whole f s body) h
-
-pub parameter_names : (ps : List SigParam) → map parameter_name ps ≡ map Parameter.name (map parameter_view ps)
-parameter_names [] = refl
-parameter_names (p ∷ ps) = ap (λ (names : List (List ℕ)). parameter_name p ∷ names) (parameter_names ps)
 
 -- a function with this name and this signature
 abbrev pub named_whole : FunctionDefinition → TypedBlock → List ℕ → Signature → Checked TypedFunction

@@ -1,11 +1,11 @@
 -- How paths join: in any grouping.
-use Rattle.std.proofs.Common.{◌≡◌, ◌≢◌, ℕ, Bool, true, false, ◌&&◌, cond, List, [], ◌∷◌, Option, Some, None, refl, sym, ap, ◌∙◌, bytes_eq}
+use Rattle.std.proofs.Common.{◌≡◌, ℕ, Bool, true, false, ◌&&◌, cond, List, [], ◌∷◌, Option, Some, None, refl, sym, ap, ◌∙◌, bytes_eq}
 use Rattle.std.proofs.lemmas.Bool.{false≢true}
 use Rattle.std.proofs.lemmas.Slice.Eq.{bytes_eq-Decides}
 use Rattle.gp_types.specs.Types as types
 use Rattle.gp_types.specs.Types.{Ty, Tys}
 use Rattle.gp_types.specs.Same.{same_type, same_types}
-use Rattle.gp_environment.specs.Environment.{Environment, common, join, join_reached}
+use Rattle.gp_locals.specs.Environment.{Environment, common, join, join_reached}
 use Rattle.gp_typing.specs.Statements.{Ends, after, goes_on}
 
 bytes_eq-along : (n o p : List ℕ) → bytes_eq n o ≡ true → bytes_eq n p ≡ bytes_eq o p

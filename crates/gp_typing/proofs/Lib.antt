@@ -1,6 +1,5 @@
 pub mod Rows
 pub mod Binds
-pub mod EndLemmas
 pub mod Joins
 pub mod Blocks
 pub mod BlockViews

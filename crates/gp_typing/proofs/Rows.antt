@@ -1,7 +1,7 @@
 -- Rows of types and of values: as lists, and grown at their end.
 use Rattle.std.proofs.Common.{◌≡◌, ◌<◌, ◌≤◌, ℕ, zero, suc, List, [], ◌∷◌, ◌++◌, map, take, drop, get_or, length, false, refl, ap, sym, ◌∙◌, arith, Option, Some, None, Ok, Err}
 use Rattle.gp_types.specs.Types as types
-use Rattle.gp_types.specs.Types.{Ty, Tys, Field, Fields, tys_of, fields_of}
+use Rattle.gp_types.specs.Types.{Ty, Tys, Field, tys_of, fields_of}
 use Rattle.gp_types.specs.Signature.{Parameter}
 use Rattle.gp_types.specs.declared.builtins.BuiltinParameter.{BuiltinParameter}
 use Rattle.gp_typing.specs.Checks.{Checked, ◌>>=◌}

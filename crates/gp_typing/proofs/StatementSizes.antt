@@ -1,5 +1,5 @@
 -- How large statements and blocks are: the measure of the calls that go down into them.
-use Rattle.std.proofs.Common.{◌≡◌, ℕ, zero, suc, ◌+◌, ◌<◌, List, [], ◌∷◌, length, get_or, arith, sym, ap, ◌∙◌}
+use Rattle.std.proofs.Common.{◌≡◌, ℕ, zero, suc, ◌+◌, ◌*◌, ◌<◌, List, [], ◌∷◌, length, get_or, arith, sym, ap, ◌∙◌}
 use Rattle.std.specs.Prelude.{Vec}
 use Rattle.std.specs.declared.alloc.Global.{Global}
 use Rattle.gp_base.specs.declared.name.LineNo.{LineNo}
@@ -28,8 +28,15 @@ abbrev mutual
   block_size stmt.no_statements = 0
   block_size (stmt.with_statement s ss) = statement_size s + block_size ss + 1
 
--- a statement is smaller than the block that it stands in
-pub item-size : (block : List Stmt) (i : ℕ) (item : Stmt) → i < length block → item ≡ get_or block i item
+-- ---- three steps for each level: a block, a statement behind what stands before it, and the statement alone
+
+abbrev pub block_steps : List Stmt → ℕ
+block_steps block = 3 * block_size (statements block)
+
+abbrev pub statement_steps : Stmt → ℕ
+statement_steps s = 3 * statement_size (statement s)
+
+item-size : (block : List Stmt) (i : ℕ) (item : Stmt) → i < length block → item ≡ get_or block i item
     → statement_size (statement item) < block_size (statements block)
 item-size [] i item h is = absurd (omega arith)
 item-size (s ∷ ss) zero item h is =
@@ -39,41 +46,39 @@ item-size (s ∷ ss) (suc i) item h is =
     let rest : statement_size (statement item) < block_size (statements ss) = item-size ss i item (omega arith) is in
     omega arith
 
--- a block is smaller than its statement
-module _ (s : Stmt) (line : LineNo) (block : List Stmt) where
-  if_size : (test : Expr) (body other : Vec Stmt Global) → s ≡ variants.If line test body other
-      → statement_size (statement s) ≡ block_size (statements body.items) + block_size (statements other.items) + 1
-  if_size test body other is = ap (λ (x : Stmt). statement_size (statement x)) (is ∙ sym (variants.rolls-If line test body other))
-      ∙ ap (λ (x : Statement). statement_size x) (fold-roll-Stmt Statement statement_step (Stmt-F.If line test body other))
+-- a statement is smaller than the block that it stands in
+pub item-smaller : (block : List Stmt) (i : ℕ) (item : Stmt) → i < length block → item ≡ get_or block i item
+    → statement_steps item + 1 < block_steps block
+item-smaller block i item h is =
+    let less : statement_size (statement item) < block_size (statements block) = item-size block i item h is in
+    omega arith
 
-  pub if_body-size : (test : Expr) (body other : Vec Stmt Global) → s ≡ variants.If line test body other → block ≡ body.items
-      → block_size (statements block) < statement_size (statement s)
-  if_body-size test body other is same =
-      let whole : statement_size (statement s) ≡ block_size (statements body.items) + block_size (statements other.items) + 1 = if_size test body other is in
-      let part : block_size (statements block) ≡ block_size (statements body.items) = ap (λ (b : List Stmt). block_size (statements b)) same in
+-- blocks are smaller than their statement
+module _ (s : Stmt) (line : LineNo) where
+  pub if-smaller : (test : Expr) (body other : Vec Stmt Global) → s ≡ variants.If line test body other
+      → (b o : List Stmt) → b ≡ body.items → o ≡ other.items → block_steps b + block_steps o + 1 < statement_steps s
+  if-smaller test body other is b o as_body as_other =
+      let whole : statement_size (statement s) ≡ block_size (statements body.items) + block_size (statements other.items) + 1 =
+      ap (λ (x : Stmt). statement_size (statement x)) (is ∙ sym (variants.rolls-If line test body other))
+      ∙ ap (λ (x : Statement). statement_size x) (fold-roll-Stmt Statement statement_step (Stmt-F.If line test body other)) in
+      let first : block_size (statements b) ≡ block_size (statements body.items) = ap (λ (ss : List Stmt). block_size (statements ss)) as_body in
+      let second : block_size (statements o) ≡ block_size (statements other.items) = ap (λ (ss : List Stmt). block_size (statements ss)) as_other in
       omega arith
 
-  pub if_other-size : (test : Expr) (body other : Vec Stmt Global) → s ≡ variants.If line test body other → block ≡ other.items
-      → block_size (statements block) < statement_size (statement s)
-  if_other-size test body other is same =
-      let whole : statement_size (statement s) ≡ block_size (statements body.items) + block_size (statements other.items) + 1 = if_size test body other is in
-      let part : block_size (statements block) ≡ block_size (statements other.items) = ap (λ (b : List Stmt). block_size (statements b)) same in
-      omega arith
-
-  pub while_body-size : (test : Expr) (body : Vec Stmt Global) → s ≡ variants.While line test body → block ≡ body.items
-      → block_size (statements block) < statement_size (statement s)
-  while_body-size test body is same =
+  pub while-smaller : (test : Expr) (body : Vec Stmt Global) → s ≡ variants.While line test body
+      → (b : List Stmt) → b ≡ body.items → block_steps b + 1 < statement_steps s
+  while-smaller test body is b as_body =
       let whole : statement_size (statement s) ≡ block_size (statements body.items) + 1 =
       ap (λ (x : Stmt). statement_size (statement x)) (is ∙ sym (variants.rolls-While line test body))
       ∙ ap (λ (x : Statement). statement_size x) (fold-roll-Stmt Statement statement_step (Stmt-F.While line test body)) in
-      let part : block_size (statements block) ≡ block_size (statements body.items) = ap (λ (b : List Stmt). block_size (statements b)) same in
+      let part : block_size (statements b) ≡ block_size (statements body.items) = ap (λ (ss : List Stmt). block_size (statements ss)) as_body in
       omega arith
 
-  pub for_body-size : (name : List ℕ) (count : Expr) (body : Vec Stmt Global) → s ≡ variants.For line name count body → block ≡ body.items
-      → block_size (statements block) < statement_size (statement s)
-  for_body-size name count body is same =
+  pub for-smaller : (name : List ℕ) (count : Expr) (body : Vec Stmt Global) → s ≡ variants.For line name count body
+      → (b : List Stmt) → b ≡ body.items → block_steps b + 1 < statement_steps s
+  for-smaller name count body is b as_body =
       let whole : statement_size (statement s) ≡ block_size (statements body.items) + 1 =
       ap (λ (x : Stmt). statement_size (statement x)) (is ∙ sym (variants.rolls-For line name count body))
       ∙ ap (λ (x : Statement). statement_size x) (fold-roll-Stmt Statement statement_step (Stmt-F.For line name count body)) in
-      let part : block_size (statements block) ≡ block_size (statements body.items) = ap (λ (b : List Stmt). block_size (statements b)) same in
+      let part : block_size (statements b) ≡ block_size (statements body.items) = ap (λ (ss : List Stmt). block_size (statements ss)) as_body in
       omega arith

@@ -1,6 +1,6 @@
 -- The types of expressions. Parts are checked from left to right, inner ones first, and a rule of an expression's own
 -- comes after all its parts.
-use Rattle.std.specs.Prelude.{ℕ, suc, ◌+◌, Bool, true, false, ◌&&◌, ◌||◌, not, if◌then◌else◌, List, [], ◌∷◌, Option, Some, None, Ok, Err, bytes_eq, eqb, ltb, length}
+use Rattle.std.specs.Prelude.{ℕ, suc, ◌+◌, Bool, true, false, ◌&&◌, ◌||◌, not, if◌then◌else◌, List, [], ◌∷◌, Option, Some, None, Ok, Err, bytes_eq, eqb, ltb}
 use Rattle.gp_base.specs.declared.name.LineNo.{LineNo}
 use Rattle.gp_tree.specs.declared.expr.BinOp.{BinOp}
 use Rattle.gp_tree.specs.declared.expr.BinOp.TheVariants as op
@@ -11,16 +11,17 @@ use Rattle.gp_types.specs.Types as types
 use Rattle.gp_types.specs.Types.{Ty, Tys, Fields}
 use Rattle.gp_types.specs.Same.{same_type, same_types}
 use Rattle.gp_types.specs.Size.{size}
-use Rattle.gp_types.specs.Signature.{Signature, Parameter}
-use Rattle.gp_types.specs.Builtins.{builtin_named, parameters_of, answer_of}
-use Rattle.gp_types.specs.declared.builtins.Builtin.{Builtin}
-use Rattle.gp_types.specs.declared.builtins.Builtin.TheVariants as built_in
+use Rattle.gp_types.specs.declared.limit.TheConstants.{TYPE_SIZE_LIMIT}
+use Rattle.gp_types.specs.Signature.{Parameter}
+use Rattle.gp_types.specs.Builtins.{parameters_of, answer_of}
 use Rattle.gp_types.specs.declared.builtins.BuiltinParameter.{BuiltinParameter}
 use Rattle.gp_types.specs.declared.builtins.BuiltinType.{BuiltinType}
 use Rattle.gp_types.specs.declared.builtins.BuiltinType.TheVariants as built_in_type
 use Rattle.gp_typing.specs.declared.fault.TypeFault.TheVariants.{UnknownName, NotOnEveryPath, Mismatch, WrongCount, TooBigType}
 use Rattle.gp_typing.specs.Checks.{Checked, ◌>>=◌, check, found}
-use Rattle.gp_environment.specs.Environment.{Names, Environment, type_of}
+use Rattle.gp_locals.specs.Callee.{Callee, Written, Made, BuiltIn, callee_of, takes_tag}
+use Rattle.gp_locals.specs.Environment.{Names, Environment, type_of}
+use Rattle.gp_locals.specs.Tag.{is_tag}
 use Rattle.gp_scope.specs.Known.{Known}
 use Rattle.gp_typing.specs.Typed as typed
 use Rattle.gp_typing.specs.Typed.{TypedExpression, TypedExpressions, TypedKind, of_type}
@@ -105,35 +106,6 @@ answer_type _ left right = from_ints types.Int left right
 
 -- ---- calls
 
--- what a call calls: a written function, a struct that it makes, or a built-in function
-pub data Callee : Type 0 where
-  Written : Signature → Callee
-  Made : Ty → Callee
-  BuiltIn : Builtin → Callee
-
-abbrev pub struct_or_built_in : Option Ty → Option Builtin → Option Callee
-struct_or_built_in (Some ty) other = Some (Made ty)
-struct_or_built_in None (Some b) = Some (BuiltIn b)
-struct_or_built_in None None = None
-
-abbrev pub first_callee : Option Signature → Option Callee → Option Callee
-first_callee (Some s) other = Some (Written s)
-first_callee None other = other
-
-abbrev pub imported_function : Known → List ℕ → Option Builtin
-imported_function known name = if known.is_imported name then builtin_named name else None
-
-abbrev pub outside : Known → List ℕ → Option Callee
-outside known name = first_callee (known.signature_of name) (struct_or_built_in (known.struct_of name) (imported_function known name))
-
--- a name of the function hides what the name means outside
-abbrev pub hidden : Option (Option Ty) → Option Callee → Option Callee
-hidden (Some entry) callee = None
-hidden None callee = callee
-
-abbrev pub callee_of : Known → Names → Environment → List ℕ → Option Callee
-callee_of known names e name = hidden (type_of names e name) (outside known name)
-
 abbrev pub built_in_ty : BuiltinType → Ty
 built_in_ty built_in_type.Int = types.Int
 built_in_ty built_in_type.Bool = types.Bool
@@ -169,23 +141,6 @@ abbrev pub callee_answer : Callee → Option Ty
 callee_answer (Written s) = s.result
 callee_answer (Made ty) = Some ty
 callee_answer (BuiltIn b) = built_in_answer (answer_of b)
-
--- only the built-in function `result` takes a tag
-abbrev pub takes_tag : Callee → Bool
-takes_tag (BuiltIn built_in.Result) = true
-takes_tag _ = false
-
--- a character from the blank to `~`, but no backslash
-abbrev pub is_tag_character : ℕ → Bool
-is_tag_character c = not (ltb c 32) && not (ltb 126 c) && not (eqb c 92)
-
-abbrev pub all_tag_characters : List ℕ → Bool
-all_tag_characters [] = true
-all_tag_characters (c ∷ cs) = is_tag_character c && all_tag_characters cs
-
--- 1 to 255 such characters
-abbrev pub is_tag : List ℕ → Bool
-is_tag text = ltb 0 (length text) && not (ltb 255 (length text)) && all_tag_characters text
 
 -- the arguments of a call: the tag, where the first one is one, and the values
 pub record Arguments : Type 0 where
@@ -238,7 +193,7 @@ called line name callee arguments =
 -- the type of a tuple of these values
 abbrev pub tupled : LineNo → Values → Checked TypedExpression
 tupled line values =
-    check (not (ltb 64 (size (types.Tuple values.types)))) (TooBigType line)
+    check (not (ltb TYPE_SIZE_LIMIT (size (types.Tuple values.types)))) (TooBigType line)
     >>= λ _. has_type (types.Tuple values.types) (typed.tuple values.trees)
 
 abbrev mutual
@@ -279,7 +234,7 @@ abbrev mutual
       >>= λ _. has_type x.ty (typed.choice test.tree x.tree y.tree)
   typing known names e line (expr.tuple es) = values_of known names e line es >>= λ values. tupled line values
   typing known names e line (expr.call name es) =
-      found (callee_of known names e name) (UnknownName line)
+      found (callee_of known names name) (UnknownName line)
       >>= λ callee. arguments_of known names e line (takes_tag callee) es
       >>= λ arguments. called line name callee arguments
 

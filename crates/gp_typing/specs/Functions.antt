@@ -1,28 +1,22 @@
 -- The types of functions, and of a program.
-use Rattle.std.specs.Prelude.{ℕ, Bool, true, false, ◌&&◌, ◌||◌, not, List, [], ◌∷◌, map, Some, None, is_some, Ok, bytes_eq}
+use Rattle.std.specs.Prelude.{ℕ, Bool, false, ◌&&◌, ◌||◌, not, List, [], ◌∷◌, Some, is_some, Ok, bytes_eq}
 use Rattle.gp_tree.specs.Program.{FunctionDefinition, ProgramItem, function_item}
-use Rattle.gp_types.specs.declared.signature.Mode.{Mode}
-use Rattle.gp_types.specs.declared.signature.Mode.TheVariants.{Borrowed}
-use Rattle.gp_types.specs.Signature.{Signature, Parameter}
+use Rattle.gp_types.specs.Signature.{Signature, Parameter, is_borrowed_mode, parameter_names}
 use Rattle.gp_typing.specs.declared.fault.TypeFault.TheVariants.{UnknownName, TooManyPlaces, MissingReturn}
 use Rattle.gp_typing.specs.Checks.{Checked, ◌>>=◌, check, found}
-use Rattle.gp_environment.specs.Environment.{Names, Environment, nothing_usable, put, is_within}
+use Rattle.gp_locals.specs.Environment.{Names, Environment, nothing_usable, put, is_within}
 use Rattle.gp_scope.specs.Known.{Known}
-use Rattle.gp_environment.specs.Locals.{locals}
+use Rattle.gp_locals.specs.Locals.{locals}
 use Rattle.gp_typing.specs.Statements.{Frame, block_typing, block_of}
 use Rattle.gp_typing.specs.Typed.{TypedFunction}
-
-abbrev pub is_mode_borrowed : Mode → Bool
-is_mode_borrowed Borrowed = true
-is_mode_borrowed _ = false
 
 -- whether a name is a borrowed parameter
 abbrev pub is_borrowed_among : List Parameter → List ℕ → Bool
 is_borrowed_among [] name = false
-is_borrowed_among (p ∷ ps) name = (is_mode_borrowed p.mode && bytes_eq p.name name) || is_borrowed_among ps name
+is_borrowed_among (p ∷ ps) name = (is_borrowed_mode p.mode && bytes_eq p.name name) || is_borrowed_among ps name
 
 abbrev pub names_of : FunctionDefinition → Signature → Names
-names_of f s = locals (map Parameter.name s.params) f.body
+names_of f s = locals (parameter_names s.params) f.body
 
 abbrev pub frame_of : FunctionDefinition → Signature → Frame
 frame_of f s = record { names = names_of f s; result = s.result; is_borrowed = is_borrowed_among s.params }

@@ -1,13 +1,8 @@
 pub mod Checks
 pub mod Typed
 pub mod Expressions
-pub mod ExpressionView
-pub mod CallView
-pub mod Operations
 pub mod Statements
 pub mod Functions
 pub mod View
-pub mod StatementView
-pub mod Pieces
-pub mod FunctionView
 pub mod TypedView
+pub mod code

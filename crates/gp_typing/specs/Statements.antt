@@ -1,5 +1,5 @@
 -- The types of statements: the usable names at their ends, and the first fault.
-use Rattle.std.specs.Prelude.{ℕ, Bool, true, false, ◌&&◌, not, List, [], ◌∷◌, Option, Some, None, is_some, Ok, Err}
+use Rattle.std.specs.Prelude.{ℕ, Bool, true, false, ◌&&◌, not, if◌then◌else◌, List, [], ◌∷◌, Option, Some, None, is_some, Ok, Err}
 use Rattle.gp_base.specs.declared.name.LineNo.{LineNo}
 use Rattle.gp_tree.specs.declared.place.Place.{Place}
 use Rattle.gp_tree.specs.declared.place.Targets.{Targets}
@@ -13,11 +13,11 @@ use Rattle.gp_types.specs.Types.{Ty, Tys}
 use Rattle.gp_types.specs.Same.{same_type}
 use Rattle.gp_typing.specs.declared.fault.TypeFault.TheVariants.{Mismatch, WrongCount, TooManyPlaces, Unreachable, LoopChangesType, BorrowedAssigned}
 use Rattle.gp_typing.specs.Checks.{Checked, ◌>>=◌, check, found}
-use Rattle.gp_environment.specs.Environment.{Names, Environment, put, join_reached, keeps_reached, is_within, usable}
+use Rattle.gp_locals.specs.Environment.{Names, Environment, put, join_reached, keeps_reached, is_within, usable}
 use Rattle.gp_scope.specs.Known.{Known}
 use Rattle.gp_typing.specs.Expressions.{valued, typing, place_type, is_int, is_bool}
 use Rattle.gp_typing.specs.Typed as typed
-use Rattle.gp_typing.specs.Typed.{TypedExpression, TypedStatement, TypedStatements, TypedStatementKind, TypedBlock, behind}
+use Rattle.gp_typing.specs.Typed.{TypedStatements, TypedStatementKind, TypedBlock, behind}
 
 -- what the whole function fixes: its names, the type of its result, and which names are borrowed parameters
 pub record Frame : Type 0 where
@@ -115,8 +115,7 @@ is_true _ = false
 
 -- what is usable after a `while` loop: with the test `True` only a `break` leads there
 abbrev pub after_while : Expression → Environment → Option Environment → Option Environment
-after_while (expr.boolean true) e breaks = breaks
-after_while _ e breaks = join_reached (Some e) breaks
+after_while test e breaks = if is_true test then breaks else join_reached (Some e) breaks
 
 -- each name usable at the head has the same type where the body comes back to it
 abbrev pub comes_back : Environment → Ends → Bool

@@ -8,7 +8,7 @@ use Rattle.gp_tree.specs.declared.place.Targets.{Targets}
 use Rattle.gp_tree.specs.TypeExpression.{TypeExpression}
 use Rattle.gp_types.specs.Types.{Ty}
 use Rattle.gp_types.specs.Signature.{Signature}
-use Rattle.gp_environment.specs.Environment.{NameType}
+use Rattle.gp_locals.specs.Environment.{NameType}
 
 mutual
   -- an expression; it has no type where it is a tag, or a call that answers nothing

@@ -11,7 +11,6 @@ use Rattle.gp_typing.specs.declared.typed.TypedStmtKind.TheOpen.{TypedStmt-F, Ty
 use Rattle.gp_typing.specs.declared.typed.TypedStmtKind as statement_kind
 use Rattle.gp_typing.specs.declared.typed.TypedBlock as block
 use Rattle.gp_typing.specs.declared.typed.TypedFunction as function
-use Rattle.gp_environment.specs.View.{name_view}
 use Rattle.gp_typing.specs.Typed.{TypedExpression, of_type, TypedKind, TypedExpressions, no_expressions, with_expression, TypedStatement, behind, TypedStatementKind, TypedStatements, no_statements, with_statement, TypedBlock, TypedFunction}
 use Rattle.gp_typing.specs.Typed as typed
 
@@ -64,7 +63,7 @@ statement_kind_step (TypedStmtKind-F.Continue line) = typed.continue_loop line
 statement_kind_step (TypedStmtKind-F.Pass line) = typed.pass line
 
 abbrev pub statement_step : TypedStmt-F TypedStatementKind TypedBlock TypedStatement → TypedStatement
-statement_step s = behind (map name_view s.before) s.kind
+statement_step s = behind s.before s.kind
 
 abbrev pub block_step : TypedBlock-F TypedStatementKind TypedBlock TypedStatement → TypedBlock
 block_step b = typed.block (statements_of b.stmts.items) b.end_reached

@@ -4,18 +4,17 @@ ghost use Rattle.std.specs.Prelude.{◌≡◌, IsTrue, length, map};
 ghost use Rattle.gp_types.specs.Types.{tys_of};
 ghost use Rattle.gp_types.specs.View.{ty_view};
 ghost use Rattle.gp_typing.specs.Checks.{Answers};
-ghost use Rattle.gp_typing.specs.Pieces.{named};
+ghost use Rattle.gp_typing.specs.code.Pieces.{named};
 ghost use Rattle.gp_typing.specs.Statements as spec;
-ghost use Rattle.gp_typing.specs.StatementView.{frame_view};
+ghost use Rattle.gp_typing.specs.code.StatementView.{frame_view};
 
 use crate::fault::TypeFault;
 use crate::frame::{Frame, is_borrowed};
 use crate::places::place_type;
 use gp_base::LineNo;
-use gp_environment::Environment;
+use gp_locals::Environment;
 use gp_tree::{Place, Targets};
-use gp_types::{Ty, copy, same_type};
-use std::alloc::Global;
+use gp_types::{Ty, same_type};
 
 /// Gives a name this type; a borrowed parameter is `BorrowedAssigned`.
 pub fn assign_name(
@@ -60,7 +59,6 @@ pub fn assign_place(
 /// Assigns a value of this type to targets. A pattern takes the parts of a tuple: another type is a `Mismatch`, and
 /// another number of parts a `WrongCount`.
 pub fn assign_targets(
-    alloc: Global,
     frame: &Frame<'_>,
     environment: &mut Environment,
     line: LineNo,
@@ -71,7 +69,7 @@ pub fn assign_targets(
         (spec.assigned (frame_view frame.now) environment.old line targets.now (ty_view ty.now)) }
 {
     match targets {
-        Targets::One(place) => assign_place(frame, environment, line, place, copy(alloc, ty)?),
+        Targets::One(place) => assign_place(frame, environment, line, place, ty.copy()?),
         Targets::Pattern(places) => {
             let Ty::Tuple(parts) = ty else {
                 return Err(TypeFault::Mismatch(line));
@@ -79,7 +77,7 @@ pub fn assign_targets(
             if !are_as_many(places.as_slice(), parts) {
                 return Err(TypeFault::WrongCount(line));
             }
-            assign_places(alloc, frame, environment, line, places.as_slice(), parts)
+            assign_places(frame, environment, line, places.as_slice(), parts)
         }
     }
 }
@@ -95,7 +93,6 @@ fn are_as_many(places: &[Place], parts: &[Ty]) -> bool
 
 // The targets of a pattern take the parts of a tuple one after the other.
 fn assign_places(
-    alloc: Global,
     frame: &Frame<'_>,
     environment: &mut Environment,
     line: LineNo,
@@ -107,7 +104,7 @@ fn assign_places(
         (spec.assigned_places (frame_view frame.now) environment.old line places.now (tys_of (map ty_view parts.now))) }
 {
     for i in 0..places.len() {
-        let part = copy(alloc, &parts[i])?;
+        let part = parts[i].copy()?;
         assign_place(frame, environment, line, &places[i], part)?;
     }
     Ok(())

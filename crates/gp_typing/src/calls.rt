@@ -2,91 +2,25 @@
 
 ghost use Rattle.std.specs.Prelude.{◌≡◌, IfOk, eqb, map, option_map};
 ghost use Rattle.gp_tree.specs.Expression.{expressions};
-ghost use Rattle.gp_types.specs.Same as same;
 ghost use Rattle.gp_types.specs.Signature.{parameter_view};
 ghost use Rattle.gp_types.specs.Types.{tys_of, fields_of};
 ghost use Rattle.gp_types.specs.View.{ty_view, field_view};
 ghost use Rattle.gp_typing.specs.declared.fault.TypeFault.TheVariants.{Mismatch, WrongCount};
-ghost use Rattle.gp_typing.specs.CallView.{callee_view, callee_in, arguments_view, count_with, do_fit, trees_with, tag_of};
+ghost use Rattle.gp_locals.specs.CalleeView.{callee_view};
+ghost use Rattle.gp_typing.specs.code.CallView.{arguments_view, count_with, do_fit, trees_with, tag_of};
 ghost use Rattle.gp_typing.specs.Checks.{Answers, check};
 ghost use Rattle.gp_typing.specs.Expressions as spec;
 ghost use Rattle.gp_typing.specs.View.{expression_view, expressions_view};
 
-use crate::context::Context;
 use crate::fault::TypeFault;
 use crate::operators::{is_bool, is_int};
 use crate::typed::{TypedExpr, TypedExprs, TypedKind};
 use crate::value::Values;
 use gp_base::{LineNo, Name, TextBytes};
-use gp_tree::{Expr, copy_name, copy_text};
-use gp_types::{
-    Builtin, BuiltinParameter, BuiltinType, Field, SigParam, Signature, Ty, Tys, builtin, copy,
-    same_type,
-};
+use gp_locals::{Callee, is_tag, takes_tag};
+use gp_tree::{Expr, copy_text};
+use gp_types::{BuiltinParameter, BuiltinType, Field, SigParam, Ty, Tys, same_types};
 use std::alloc::{AllocError, Global};
-
-/// What a call calls.
-#[derive(Clone, Copy)]
-pub enum Callee<'a> {
-    /// A written function.
-    Written(&'a Signature),
-    /// A struct that the call makes.
-    Made(&'a Ty),
-    /// A built-in function.
-    BuiltIn(Builtin),
-}
-
-/// What a call of this name calls; `None` where it can't be called. Takes no memory.
-pub fn find_callee<'a>(context: &Context<'a>, name: &str) -> Option<Callee<'a>>
-    ensures { option_map callee_view result ≡ callee_in context.now name.now }
-{
-    if context.names.position(name).is_some() {
-        return None;
-    }
-    if let Some(signature) = context.scope.signature(name) {
-        return Some(Callee::Written(signature));
-    }
-    if let Some(ty) = context.scope.struct_type(name) {
-        return Some(Callee::Made(ty));
-    }
-    if !context.scope.imports(name) {
-        return None;
-    }
-    match builtin(name) {
-        Some(function) => Some(Callee::BuiltIn(function)),
-        None => None,
-    }
-}
-
-/// Whether the call takes a tag: that of the built-in function `result` does. Takes no memory.
-pub fn takes_tag(callee: &Callee<'_>) -> bool
-    ensures { result ≡ spec.takes_tag (callee_view callee.now) }
-{
-    matches!(callee, Callee::BuiltIn(Builtin::Result))
-}
-
-fn is_tag_character(byte: u8) -> bool
-    ensures { result ≡ spec.is_tag_character byte }
-{
-    byte >= 32 && byte <= 126 && byte != 92
-}
-
-fn all_tag_characters(text: &[u8]) -> bool
-    ensures { result ≡ spec.all_tag_characters text.now }
-{
-    for byte in text {
-        if !is_tag_character(*byte) {
-            return false;
-        }
-    }
-    true
-}
-
-fn is_tag(text: &[u8]) -> bool
-    ensures { result ≡ spec.is_tag text.now }
-{
-    !text.is_empty() && text.len() <= 255 && all_tag_characters(text)
-}
 
 /// The tag of a call that takes one: its first argument where that is a string. A string that is no tag is a `Mismatch`.
 pub fn find_tag(
@@ -144,7 +78,7 @@ fn written_types(alloc: Global, params: &[SigParam]) -> Result<Tys, AllocError>
 {
     let mut made = Vec::new(alloc);
     for param in params {
-        made.push(copy(alloc, &param.ty)?)?;
+        made.push(param.ty.copy()?)?;
     }
     Ok(made)
 }
@@ -154,7 +88,7 @@ fn field_types(alloc: Global, fields: &[Field]) -> Result<Tys, AllocError>
 {
     let mut made = Vec::new(alloc);
     for field in fields {
-        made.push(copy(alloc, &field.ty)?)?;
+        made.push(field.ty.copy()?)?;
     }
     Ok(made)
 }
@@ -179,22 +113,22 @@ fn parameter_types(alloc: Global, callee: &Callee<'_>) -> Result<Tys, AllocError
     }
 }
 
-fn copy_result(alloc: Global, ty: &Option<Ty>) -> Result<Option<Ty>, AllocError>
+fn copy_result(ty: &Option<Ty>) -> Result<Option<Ty>, AllocError>
     ensures { IfOk result (λ made. option_map ty_view made ≡ option_map ty_view ty.now) }
 {
     match ty {
-        Some(ty) => Ok(Some(copy(alloc, ty)?)),
+        Some(ty) => Ok(Some(ty.copy()?)),
         None => Ok(None),
     }
 }
 
 // The type of a callee's answer, where it has one.
-fn answer_of(alloc: Global, callee: &Callee<'_>) -> Result<Option<Ty>, AllocError>
+fn answer_of(callee: &Callee<'_>) -> Result<Option<Ty>, AllocError>
     ensures { IfOk result (λ made. option_map ty_view made ≡ spec.callee_answer (callee_view callee.now)) }
 {
     match callee {
-        Callee::Written(signature) => copy_result(alloc, &signature.result),
-        Callee::Made(ty) => Ok(Some(copy(alloc, ty)?)),
+        Callee::Written(signature) => copy_result(&signature.result),
+        Callee::Made(ty) => Ok(Some(ty.copy()?)),
         Callee::BuiltIn(function) => match function.answer() {
             Some(ty) => Ok(Some(built_in_type(ty))),
             None => Ok(None),
@@ -210,13 +144,6 @@ fn is_reported(tag: &Option<TextBytes>, types: &[Ty]) -> bool
         (Some(_), [ty]) => is_int(ty) || is_bool(ty),
         _ => false,
     }
-}
-
-// Whether two rows of types are the same.
-fn same_types(types: Tys, others: Tys) -> bool
-    ensures { result ≡ same.same_types (tys_of (map ty_view types.items)) (tys_of (map ty_view others.items)) }
-{
-    same_type(&Ty::Tuple(types), &Ty::Tuple(others))
 }
 
 // The number of arguments that a call of the callee takes, where its parameters have these types.
@@ -264,7 +191,7 @@ fn fit(callee: &Callee<'_>, tag: &Option<TextBytes>, types: Tys, parameters: Tys
     if takes_tag(callee) {
         is_reported(tag, &types)
     } else {
-        same_types(types, parameters)
+        same_types(&types, &parameters)
     }
 }
 
@@ -317,8 +244,8 @@ pub fn call(
     let parameters = parameter_types(alloc, callee)?;
     check_count(line, callee, &tag, &types, &parameters)?;
     check_types(line, callee, &tag, types, parameters)?;
-    let ty = answer_of(alloc, callee)?;
-    let name = copy_name(alloc, name)?;
+    let ty = answer_of(callee)?;
+    let name = name.copy()?;
     let exprs = with_tag(tag, exprs)?;
     Ok(TypedExpr {
         ty,

@@ -1,7 +1,7 @@
 //! What an expression is typed against.
 
 use gp_base::LineNo;
-use gp_environment::{Environment, Locals};
+use gp_locals::{Environment, Locals};
 use gp_scope::Scope;
 
 /// What an expression is typed against.

@@ -1,14 +1,18 @@
 //! What is usable at the ends of statements and blocks.
 
-ghost use Rattle.std.specs.Prelude.{◌≡◌, IfOk, None};
+ghost use Rattle.std.specs.Prelude.{◌≡◌, IfOk, None, is_some};
 ghost use Rattle.gp_tree.specs.Expression.{expression};
-ghost use Rattle.gp_environment.specs.Environment as env;
+ghost use Rattle.gp_locals.specs.Environment as env;
 ghost use Rattle.gp_typing.specs.Statements as spec;
-ghost use Rattle.gp_typing.specs.StatementView.{ends_view, block_view};
+ghost use Rattle.gp_typing.specs.code.StatementView.{ends_view, block_view};
+ghost use Rattle.gp_typing.specs.Checks.{Answers};
+ghost use Rattle.gp_typing.specs.code.Pieces.{kept_within};
 ghost use Rattle.gp_typing.specs.View as view;
 
+use crate::fault::TypeFault;
 use crate::typed::{TypedBlock, TypedStmtKind, TypedStmts};
-use gp_environment::Environment;
+use gp_base::LineNo;
+use gp_locals::Environment;
 use gp_tree::Expr;
 use std::alloc::{AllocError, Global};
 
@@ -71,7 +75,7 @@ pub fn join_reached(
 }
 
 /// The ends of one block after another.
-pub fn after(alloc: Global, first: Ends, second: Ends) -> Result<Ends, AllocError>
+fn after(alloc: Global, first: Ends, second: Ends) -> Result<Ends, AllocError>
     ensures { IfOk result (λ ends. ends_view ends ≡ spec.after (ends_view first) (ends_view second)) }
 {
     let breaks = join_reached(alloc, first.breaks, second.breaks)?;
@@ -108,20 +112,35 @@ fn keeps_reached(environment: &Environment, there: &Option<Environment>) -> bool
 }
 
 /// Whether each name that is usable at a loop's head has the same type where its body comes back to it.
-pub fn comes_back(environment: &Environment, body: &Ends) -> bool
-    ensures { result ≡ spec.comes_back environment.now (ends_view body.now) }
+pub fn comes_back(environment: &Environment, body: &BlockTyping) -> bool
+    ensures { result ≡ spec.comes_back environment.now (block_view body.now).ends }
 {
-    keeps_reached(environment, &body.next) && keeps_reached(environment, &body.continues)
+    keeps_reached(environment, &body.ends.next) && keeps_reached(environment, &body.ends.continues)
 }
 
-/// Whether the types of the usable names have a total size of at most 128, where the place is reached.
-pub fn is_within_reached(there: &Option<Environment>) -> bool
+// Whether the types of the usable names have a total size within the limit, where the place is reached.
+fn is_within_reached(there: &Option<Environment>) -> bool
     ensures { result ≡ env.is_within there.now }
 {
     match there {
         None => true,
         Some(there) => there.is_within(),
     }
+}
+
+/// The ends of one block after another, where the types of the usable names at the second's end are within the limit.
+pub fn after_within(
+    alloc: Global,
+    line: LineNo,
+    first: Ends,
+    second: Ends,
+) -> Result<Ends, TypeFault>
+    ensures { Answers ends_view result (kept_within line (ends_view first) (ends_view second)) }
+{
+    if !is_within_reached(&second.next) {
+        return Err(TypeFault::TooManyPlaces(line));
+    }
+    Ok(after(alloc, first, second)?)
 }
 
 // The test `True`, which never ends a loop.
@@ -132,7 +151,6 @@ fn is_true(test: &Expr) -> bool
 }
 
 /// What is usable after a `while` loop: with the test `True` only a `break` leads there.
-#[tactic(auto, using(crate::proofs::EndLemmas::after_while_is))]
 pub fn after_while(
     alloc: Global,
     test: &Expr,
@@ -148,12 +166,39 @@ pub fn after_while(
     join_reached(alloc, Some(head), breaks)
 }
 
-/// The block without its ends.
-pub fn into_block(stmts: TypedStmts, ends: &Ends) -> TypedBlock
-    ensures { view.block_view result ≡ spec.block_of (block_view (record { stmts = stmts; ends = ends.now })) }
+/// Whether a path leads to the block's end.
+pub fn reaches_end(body: &BlockTyping) -> bool
+    ensures { result ≡ is_some (block_view body.now).ends.next }
 {
+    body.ends.next.is_some()
+}
+
+/// The block without its ends.
+pub fn into_block(body: BlockTyping) -> TypedBlock
+    ensures { view.block_view result ≡ spec.block_of (block_view body) }
+{
+    let end_reached = reaches_end(&body);
     TypedBlock {
-        stmts,
-        end_reached: ends.next.is_some(),
+        stmts: body.stmts,
+        end_reached,
     }
+}
+
+/// The block, and its ends.
+pub fn into_parts(body: BlockTyping) -> (TypedBlock, Ends)
+    ensures block { view.block_view result.0 ≡ spec.block_of (block_view body) }
+    ensures ends { ends_view result.1 ≡ (block_view body).ends }
+{
+    let end_reached = reaches_end(&body);
+    let BlockTyping { stmts, ends } = body;
+    (TypedBlock { stmts, end_reached }, ends)
+}
+
+/// The body of a loop, and what is usable at its `break`s.
+pub fn into_loop(body: BlockTyping) -> (TypedBlock, Option<Environment>)
+    ensures block { view.block_view result.0 ≡ spec.block_of (block_view body) }
+    ensures breaks { result.1 ≡ (block_view body).ends.breaks }
+{
+    let (block, ends) = into_parts(body);
+    (block, ends.breaks)
 }

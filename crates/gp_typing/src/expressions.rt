@@ -2,12 +2,13 @@
 
 ghost use Rattle.std.specs.Prelude.{drop};
 ghost use Rattle.gp_tree.specs.Expression.{expression, expressions};
+ghost use Rattle.gp_typing.specs.code.CallView.{call_in};
 ghost use Rattle.gp_typing.specs.Checks.{Answers};
-ghost use Rattle.gp_typing.specs.ExpressionView.{value_view, values_view, typed_in, valued_in, values_in};
-ghost use Rattle.gp_typing.specs.Operations.{place_of};
+ghost use Rattle.gp_typing.specs.code.ExpressionView.{value_view, values_view, typed_in, valued_in, values_in};
+ghost use Rattle.gp_typing.specs.code.Operations.{place_of};
 ghost use Rattle.gp_typing.specs.View.{expression_view};
 
-use crate::calls::{call, count_tags, find_callee, find_tag, takes_tag};
+use crate::calls::{call, count_tags, find_tag};
 use crate::context::Context;
 use crate::fault::TypeFault;
 use crate::operators::{
@@ -16,8 +17,10 @@ use crate::operators::{
 use crate::places::place_type;
 use crate::typed::{TypedExpr, TypedKind};
 use crate::value::{Value, Values, value_of};
+use gp_base::Name;
+use gp_locals::{find_callee, takes_tag};
 use gp_tree::{Expr, Place};
-use gp_types::{Ty, copy};
+use gp_types::Ty;
 use std::alloc::Global;
 
 /// An expression with its type. Parts are checked from left to right, inner ones first, and a rule of an expression's
@@ -32,14 +35,8 @@ pub fn type_expr(alloc: Global, context: &Context<'_>, expr: &Expr) -> Result<Ty
         Expr::Bool(value) => Ok(boolean_expr(*value)),
         Expr::Text(_) => Err(TypeFault::Mismatch(line)),
         Expr::Place(place) => type_place(alloc, context, place),
-        Expr::Neg(operand) => {
-            let operand = type_value(alloc, context, operand)?;
-            minus(alloc, line, operand)
-        }
-        Expr::Not(operand) => {
-            let operand = type_value(alloc, context, operand)?;
-            negation(alloc, line, operand)
-        }
+        Expr::Neg(operand) => minus(alloc, line, type_value(alloc, context, operand)?),
+        Expr::Not(operand) => negation(alloc, line, type_value(alloc, context, operand)?),
         Expr::Binary(op, left, right) => {
             let left = type_value(alloc, context, left)?;
             let right = type_value(alloc, context, right)?;
@@ -61,19 +58,28 @@ pub fn type_expr(alloc: Global, context: &Context<'_>, expr: &Expr) -> Result<Ty
             let other = type_value(alloc, context, other)?;
             choice(alloc, line, test, value, other)
         }
-        Expr::Tuple(parts) => {
-            let values = type_values(alloc, context, parts, 0)?;
-            tuple(line, values)
-        }
-        Expr::Call(name, arguments) => match find_callee(context, name.as_str()) {
-            None => Err(TypeFault::UnknownName(line)),
-            Some(callee) => {
-                let tag = find_tag(alloc, line, takes_tag(&callee), arguments)?;
-                let values = type_values(alloc, context, arguments, count_tags(&tag))?;
-                call(alloc, line, name, &callee, tag, values)
-            }
-        },
+        Expr::Tuple(parts) => tuple(line, type_values(alloc, context, parts, 0)?),
+        Expr::Call(name, arguments) => type_call(alloc, context, name, arguments),
     }
+}
+
+// A call: what it calls, then its tag and its values, then whether they fit.
+#[cycle(typing)]
+fn type_call(
+    alloc: Global,
+    context: &Context<'_>,
+    name: &Name,
+    arguments: &[Expr],
+) -> Result<TypedExpr, TypeFault>
+    ensures { Answers expression_view result (call_in context.now name.now (expressions arguments.now)) }
+{
+    let line = context.line;
+    let Some(callee) = find_callee(context.scope, context.names, name.as_str()) else {
+        return Err(TypeFault::UnknownName(line));
+    };
+    let tag = find_tag(alloc, line, takes_tag(&callee), arguments)?;
+    let values = type_values(alloc, context, arguments, count_tags(&tag))?;
+    call(alloc, line, name, &callee, tag, values)
 }
 
 /// An expression that stands where a value is needed; one without a type is a `Mismatch`.
@@ -98,7 +104,7 @@ fn type_values(
     let mut values = Values::new(alloc);
     for i in first..exprs.len() {
         let value = type_value(alloc, context, &exprs[i])?;
-        values.push(alloc, value)?;
+        values.push(value)?;
     }
     Ok(values)
 }
@@ -107,7 +113,7 @@ fn type_place(alloc: Global, context: &Context<'_>, place: &Place) -> Result<Typ
     ensures { Answers expression_view result (place_of context.now.names.now context.now.environment.now context.now.line place.now) }
 {
     let ty = place_type(context.names, context.environment, context.line, place)?;
-    let ty = copy(alloc, ty)?;
+    let ty = ty.copy()?;
     let place = place.copy(alloc)?;
     Ok(TypedExpr {
         ty: Some(ty),

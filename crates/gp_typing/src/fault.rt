@@ -4,7 +4,7 @@ use gp_base::LineNo;
 use std::alloc::{AllocError, AllocFailed};
 
 /// What is wrong with a program's types, with the line where it is.
-#[derive(Clone, Copy, Debug, PartialEq, Eq)]
+#[derive(Clone, Copy, Debug)]
 pub enum TypeFault {
     /// A name that is none of the function's own, a field that its type doesn't have, or a call of something that
     /// can't be called.
@@ -15,9 +15,9 @@ pub enum TypeFault {
     Mismatch(LineNo),
     /// A call with too few or too many arguments, or a pattern with another number of targets than its tuple has parts.
     WrongCount(LineNo),
-    /// A tuple whose type has a size above 64.
+    /// A tuple whose type has a size above `TYPE_SIZE_LIMIT`.
     TooBigType(LineNo),
-    /// The types of the usable names have a total size above 128.
+    /// The types of the usable names have a total size above `TOTAL_SIZE_LIMIT`.
     TooManyPlaces(LineNo),
     /// A function with a result whose end can be reached without a `return`.
     MissingReturn(LineNo),

@@ -2,11 +2,11 @@
 
 ghost use Rattle.std.specs.Prelude.{◌≡◌, ◌&&◌, bytes_eq, map};
 ghost use Rattle.gp_tree.specs.Expression.{expression};
-ghost use Rattle.gp_types.specs.Signature.{parameter_view};
+ghost use Rattle.gp_types.specs.Signature.{is_borrowed_mode, parameter_view};
 ghost use Rattle.gp_typing.specs.Checks.{Answers};
-ghost use Rattle.gp_typing.specs.ExpressionView.{value_view};
-ghost use Rattle.gp_typing.specs.Functions.{is_borrowed_among, is_mode_borrowed};
-ghost use Rattle.gp_typing.specs.StatementView.{expression_in, value_in};
+ghost use Rattle.gp_typing.specs.code.ExpressionView.{value_view};
+ghost use Rattle.gp_typing.specs.Functions.{is_borrowed_among};
+ghost use Rattle.gp_typing.specs.code.StatementView.{expression_in, value_in};
 ghost use Rattle.gp_typing.specs.View.{expression_view};
 
 use crate::context::Context;
@@ -15,7 +15,7 @@ use crate::fault::TypeFault;
 use crate::typed::TypedExpr;
 use crate::value::Value;
 use gp_base::LineNo;
-use gp_environment::{Environment, Locals};
+use gp_locals::{Environment, Locals};
 use gp_scope::Scope;
 use gp_tree::Expr;
 use gp_types::{Mode, SigParam, Signature};
@@ -45,7 +45,7 @@ pub fn is_borrowed(params: &[SigParam], name: &str) -> bool
 }
 
 fn takes_borrowed(param: &SigParam, name: &str) -> bool
-    ensures { result ≡ (is_mode_borrowed param.now.mode && bytes_eq param.now.name name.now) }
+    ensures { result ≡ (is_borrowed_mode param.now.mode && bytes_eq param.now.name name.now) }
 {
     matches!(param.mode, Mode::Borrowed) && param.name.as_str() == name
 }

@@ -4,24 +4,24 @@ ghost use Rattle.std.specs.Prelude.{◌≡◌, IfOk, Some, map};
 ghost use Rattle.gp_tree.specs.Program.{function_definition};
 ghost use Rattle.gp_tree.specs.Statement.{statements};
 ghost use Rattle.gp_types.specs.Signature.{parameter_view, signature_view};
-ghost use Rattle.gp_environment.specs.Environment.{nothing_usable};
+ghost use Rattle.gp_locals.specs.Environment.{nothing_usable};
 ghost use Rattle.gp_typing.specs.Checks.{Answers};
 ghost use Rattle.gp_typing.specs.Functions as spec;
-ghost use Rattle.gp_typing.specs.FunctionView.{body_typing};
+ghost use Rattle.gp_typing.specs.code.FunctionView.{body_typing};
 ghost use Rattle.gp_scope.specs.ScopeView.{known_in};
-ghost use Rattle.gp_typing.specs.StatementView.{frame_view, known_for};
+ghost use Rattle.gp_typing.specs.code.StatementView.{frame_view, known_for};
 ghost use Rattle.gp_typing.specs.View.{block_view, function_view};
 
-use crate::ends::{BlockTyping, into_block};
+use crate::ends::{into_block, reaches_end};
 use crate::fault::TypeFault;
 use crate::frame::Frame;
 use crate::statements::check_block;
 use crate::typed::{TypedBlock, TypedFunction};
 use gp_base::{LineNo, Sequence};
-use gp_environment::{Environment, Locals, locals_of};
+use gp_locals::{Environment, Locals, locals_of};
 use gp_scope::Scope;
-use gp_tree::{Function, Stmt, copy_name};
-use gp_types::{SigParam, SigParams, Signature, copy};
+use gp_tree::{Function, Stmt};
+use gp_types::{SigParam, SigParams, Signature};
 use std::alloc::{AllocError, Global};
 
 /// A function with its types. One that the scope doesn't know is an `UnknownName` at its line.
@@ -47,7 +47,7 @@ pub fn check_function(
     };
     let body = check_body(alloc, &frame, line, start, &function.body)?;
     let signature = copy_signature(alloc, signature)?;
-    let name = copy_name(alloc, &function.name)?;
+    let name = function.name.copy()?;
     Ok(TypedFunction {
         line,
         name,
@@ -70,11 +70,10 @@ fn check_body(
         return Err(TypeFault::TooManyPlaces(line));
     }
     let body = check_block(alloc, body, frame, Some(start))?;
-    if frame.signature.result.is_some() && body.ends.next.is_some() {
+    if frame.signature.result.is_some() && reaches_end(&body) {
         return Err(TypeFault::MissingReturn(line));
     }
-    let BlockTyping { stmts, ends } = body;
-    Ok(into_block(stmts, &ends))
+    Ok(into_block(body))
 }
 
 // What is usable where a function begins: its parameters.
@@ -84,7 +83,7 @@ fn start_of(alloc: Global, names: &Locals, params: &[SigParam]) -> Result<Enviro
 {
     let mut start = Environment::new(alloc, names);
     for param in params {
-        let ty = copy(alloc, &param.ty)?;
+        let ty = param.ty.copy()?;
         start.put(names, param.name.as_str(), ty)?;
     }
     Ok(start)
@@ -97,7 +96,7 @@ fn copy_signature(alloc: Global, signature: &Signature) -> Result<Signature, All
     let params = copy_params(alloc, signature.params.as_slice())?;
     let result = match &signature.result {
         None => None,
-        Some(ty) => Some(copy(alloc, ty)?),
+        Some(ty) => Some(ty.copy()?),
     };
     Ok(Signature { params, result })
 }
@@ -107,17 +106,17 @@ fn copy_params(alloc: Global, params: &[SigParam]) -> Result<SigParams, AllocErr
 {
     let mut made = Sequence::new(alloc);
     for param in params {
-        made.push(copy_param(alloc, param)?)?;
+        made.push(copy_param(param)?)?;
     }
     Ok(made)
 }
 
-fn copy_param(alloc: Global, param: &SigParam) -> Result<SigParam, AllocError>
+fn copy_param(param: &SigParam) -> Result<SigParam, AllocError>
     ensures { IfOk result (λ made. parameter_view made ≡ parameter_view param.now) }
 {
     Ok(SigParam {
-        name: copy_name(alloc, &param.name)?,
-        ty: copy(alloc, &param.ty)?,
+        name: param.name.copy()?,
+        ty: param.ty.copy()?,
         mode: param.mode,
     })
 }

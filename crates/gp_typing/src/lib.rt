@@ -19,7 +19,7 @@ pub mod typed;
 mod value;
 
 pub use fault::TypeFault;
-pub use gp_environment::{NameType, NameTypes};
+pub use gp_locals::{NameType, NameTypes, UsableNames};
 pub use program::{Typed, check};
 pub use typed::{
     TypedBlock, TypedExpr, TypedExprs, TypedFunction, TypedKind, TypedStmt, TypedStmtKind,

@@ -1,12 +1,13 @@
 //! The types of what operators answer, and of tuples.
 
-ghost use Rattle.std.specs.Prelude.{◌≡◌, Some, option_map};
+ghost use Rattle.std.specs.Prelude.{◌≡◌, ◌&&◌, IfOk, Some, option_map};
+ghost use Rattle.gp_types.specs.Same.{same_type};
 ghost use Rattle.gp_types.specs.Types as types;
 ghost use Rattle.gp_types.specs.View.{ty_view};
 ghost use Rattle.gp_typing.specs.Checks.{Answers};
 ghost use Rattle.gp_typing.specs.Expressions as spec;
-ghost use Rattle.gp_typing.specs.ExpressionView.{value_view, values_view};
-ghost use Rattle.gp_typing.specs.Operations.{minus_of, negation_of, binary_of, both_of, either_of, choice_of};
+ghost use Rattle.gp_typing.specs.code.ExpressionView.{value_view, values_view};
+ghost use Rattle.gp_typing.specs.code.Operations.{minus_of, negation_of, binary_of, both_of, either_of, choice_of};
 ghost use Rattle.gp_typing.specs.Typed as typed;
 ghost use Rattle.gp_typing.specs.View.{expression_view, kind_view};
 
@@ -15,8 +16,8 @@ use crate::typed::{TypedExpr, TypedKind};
 use crate::value::{Value, Values, into_expr};
 use gp_base::LineNo;
 use gp_tree::BinOp;
-use gp_types::{Ty, copy, same_type, size};
-use std::alloc::Global;
+use gp_types::{TYPE_SIZE_LIMIT, Ty, same_type, size};
+use std::alloc::{AllocError, Global};
 
 /// Whether the type is `int`. Takes no memory.
 pub fn is_int(ty: &Ty) -> bool
@@ -87,14 +88,63 @@ pub fn boolean_expr(value: bool) -> TypedExpr
     of_type(Ty::Bool, TypedKind::Bool(value))
 }
 
+/// Whether the value is a whole number. Takes no memory.
+pub fn is_int_value(value: &Value) -> bool
+    ensures { result ≡ spec.is_int (ty_view value.now.ty) }
+{
+    is_int(&value.ty)
+}
+
+/// Whether the value is a truth value. Takes no memory.
+pub fn is_bool_value(value: &Value) -> bool
+    ensures { result ≡ spec.is_bool (ty_view value.now.ty) }
+{
+    is_bool(&value.ty)
+}
+
+// Whether both are truth values.
+fn are_bools(left: &Value, right: &Value) -> bool
+    ensures { result ≡ (spec.is_bool (ty_view left.now.ty) && spec.is_bool (ty_view right.now.ty)) }
+{
+    is_bool(&left.ty) && is_bool(&right.ty)
+}
+
+// The type of what an operator between two operands answers.
+fn answer_of(op: BinOp, left: &Value, right: &Value) -> Option<Ty>
+    ensures { option_map ty_view result ≡ spec.answer_type op (ty_view left.now.ty) (ty_view right.now.ty) }
+{
+    answer_type(op, &left.ty, &right.ty)
+}
+
+// The value as an expression on the heap.
+fn boxed(alloc: Global, value: Value) -> Result<Box<TypedExpr>, AllocError>
+    ensures { IfOk result (λ made. expression_view made.value ≡ (value_view value).tree) }
+{
+    Ok(Box::new(alloc, into_expr(value))?)
+}
+
+// Two values as expressions on the heap.
+fn boxed_pair(
+    alloc: Global,
+    left: Value,
+    right: Value,
+) -> Result<(Box<TypedExpr>, Box<TypedExpr>), AllocError>
+    ensures left { IfOk result (λ made. expression_view made.0.value ≡ (value_view left).tree) }
+    ensures right { IfOk result (λ made. expression_view made.1.value ≡ (value_view right).tree) }
+{
+    let left = boxed(alloc, left)?;
+    let right = boxed(alloc, right)?;
+    Ok((left, right))
+}
+
 /// A minus sign before an operand.
 pub fn minus(alloc: Global, line: LineNo, operand: Value) -> Result<TypedExpr, TypeFault>
     ensures { Answers expression_view result (minus_of line (value_view operand)) }
 {
-    if !is_int(&operand.ty) {
+    if !is_int_value(&operand) {
         return Err(TypeFault::Mismatch(line));
     }
-    let operand = Box::new(alloc, into_expr(operand))?;
+    let operand = boxed(alloc, operand)?;
     Ok(of_type(Ty::Int, TypedKind::Neg(operand)))
 }
 
@@ -102,10 +152,10 @@ pub fn minus(alloc: Global, line: LineNo, operand: Value) -> Result<TypedExpr, T
 pub fn negation(alloc: Global, line: LineNo, operand: Value) -> Result<TypedExpr, TypeFault>
     ensures { Answers expression_view result (negation_of line (value_view operand)) }
 {
-    if !is_bool(&operand.ty) {
+    if !is_bool_value(&operand) {
         return Err(TypeFault::Mismatch(line));
     }
-    let operand = Box::new(alloc, into_expr(operand))?;
+    let operand = boxed(alloc, operand)?;
     Ok(of_type(Ty::Bool, TypedKind::Not(operand)))
 }
 
@@ -119,11 +169,10 @@ pub fn binary(
 ) -> Result<TypedExpr, TypeFault>
     ensures { Answers expression_view result (binary_of line op (value_view left) (value_view right)) }
 {
-    let Some(ty) = answer_type(op, &left.ty, &right.ty) else {
+    let Some(ty) = answer_of(op, &left, &right) else {
         return Err(TypeFault::Mismatch(line));
     };
-    let left = Box::new(alloc, into_expr(left))?;
-    let right = Box::new(alloc, into_expr(right))?;
+    let (left, right) = boxed_pair(alloc, left, right)?;
     Ok(of_type(ty, TypedKind::Binary(op, left, right)))
 }
 
@@ -131,11 +180,10 @@ pub fn binary(
 pub fn both(alloc: Global, line: LineNo, left: Value, right: Value) -> Result<TypedExpr, TypeFault>
     ensures { Answers expression_view result (both_of line (value_view left) (value_view right)) }
 {
-    if !(is_bool(&left.ty) && is_bool(&right.ty)) {
+    if !are_bools(&left, &right) {
         return Err(TypeFault::Mismatch(line));
     }
-    let left = Box::new(alloc, into_expr(left))?;
-    let right = Box::new(alloc, into_expr(right))?;
+    let (left, right) = boxed_pair(alloc, left, right)?;
     Ok(of_type(Ty::Bool, TypedKind::And(left, right)))
 }
 
@@ -148,12 +196,38 @@ pub fn either(
 ) -> Result<TypedExpr, TypeFault>
     ensures { Answers expression_view result (either_of line (value_view left) (value_view right)) }
 {
-    if !(is_bool(&left.ty) && is_bool(&right.ty)) {
+    if !are_bools(&left, &right) {
         return Err(TypeFault::Mismatch(line));
     }
-    let left = Box::new(alloc, into_expr(left))?;
-    let right = Box::new(alloc, into_expr(right))?;
+    let (left, right) = boxed_pair(alloc, left, right)?;
     Ok(of_type(Ty::Bool, TypedKind::Or(left, right)))
+}
+
+// Whether the first is a truth value, and the others have one type.
+fn is_choice(test: &Value, value: &Value, other: &Value) -> bool
+    ensures { result
+        ≡ (spec.is_bool (ty_view test.now.ty) && same_type (ty_view value.now.ty) (ty_view other.now.ty)) }
+{
+    is_bool(&test.ty) && same_type(&value.ty, &other.ty)
+}
+
+// The type of the value once more.
+fn copy_type(value: &Value) -> Result<Ty, AllocError>
+    ensures { IfOk result (λ made. ty_view made ≡ ty_view value.now.ty) }
+{
+    value.ty.copy()
+}
+
+// The choice between two values of one type.
+fn chosen(alloc: Global, test: Value, value: Value, other: Value) -> Result<TypedExpr, AllocError>
+    ensures { IfOk result (λ made. expression_view made
+        ≡ typed.of_type (Some (ty_view value.ty))
+        (typed.choice (value_view test).tree (value_view value).tree (value_view other).tree)) }
+{
+    let ty = copy_type(&value)?;
+    let (value, other) = boxed_pair(alloc, value, other)?;
+    let test = boxed(alloc, test)?;
+    Ok(of_type(ty, TypedKind::Choice(test, value, other)))
 }
 
 /// `value if test else other`
@@ -166,22 +240,18 @@ pub fn choice(
 ) -> Result<TypedExpr, TypeFault>
     ensures { Answers expression_view result (choice_of line (value_view test) (value_view value) (value_view other)) }
 {
-    if !(is_bool(&test.ty) && same_type(&value.ty, &other.ty)) {
+    if !is_choice(&test, &value, &other) {
         return Err(TypeFault::Mismatch(line));
     }
-    let ty = copy(alloc, &value.ty)?;
-    let test = Box::new(alloc, into_expr(test))?;
-    let value = Box::new(alloc, into_expr(value))?;
-    let other = Box::new(alloc, into_expr(other))?;
-    Ok(of_type(ty, TypedKind::Choice(test, value, other)))
+    Ok(chosen(alloc, test, value, other)?)
 }
 
-/// The parts of a tuple. Takes no memory.
+/// The parts of a tuple.
 pub fn tuple(line: LineNo, values: Values) -> Result<TypedExpr, TypeFault>
     ensures { Answers expression_view result (spec.tupled line (values_view values)) }
 {
-    let ty = Ty::Tuple(values.types);
-    if size(&ty) > 64 {
+    let ty = Ty::tuple(values.types)?;
+    if size(&ty) > TYPE_SIZE_LIMIT {
         return Err(TypeFault::TooBigType(line));
     }
     Ok(of_type(ty, TypedKind::Tuple(values.exprs)))

@@ -8,7 +8,7 @@ ghost use Rattle.gp_typing.specs.Expressions as spec;
 
 use crate::fault::TypeFault;
 use gp_base::{LineNo, Name};
-use gp_environment::{Environment, Found, Locals};
+use gp_locals::{Environment, Found, Locals};
 use gp_tree::Place;
 use gp_types::{Field, Ty};
 

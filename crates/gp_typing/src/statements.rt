@@ -1,6 +1,6 @@
 //! The types of statements and blocks.
 
-ghost use Rattle.std.specs.Prelude.{◌≡◌, IfOk, OnOk, Ok, Some, None, map, option_map};
+ghost use Rattle.std.specs.Prelude.{◌≡◌, IfOk, OnOk, Ok, Some, None, option_map};
 ghost use Rattle.gp_tree.specs.Expression.{expression, maybe_expression};
 ghost use Rattle.gp_tree.specs.Statement.{statement, statements};
 ghost use Rattle.gp_tree.specs.Statement as stmt;
@@ -9,27 +9,29 @@ ghost use Rattle.gp_types.specs.Types as types;
 ghost use Rattle.gp_types.specs.View.{ty_view};
 ghost use Rattle.gp_typing.specs.Checks.{Answers};
 ghost use Rattle.gp_typing.specs.Statements as spec;
-ghost use Rattle.gp_typing.specs.StatementView.{block_view, statement_view, frame_view, known_for, value_in, statement_in, block_in};
-ghost use Rattle.gp_typing.specs.Pieces.{tested, counted, named, written, ended_annotated, ended_if, ended_while, ended_for, ended_next, append_statements, with_typed, next_of};
+ghost use Rattle.gp_typing.specs.code.StatementView.{block_view, statement_view, frame_view, known_for, value_in, statement_in, block_in};
+ghost use Rattle.gp_typing.specs.code.Compound.{if_in, while_in, for_in, next_in};
+ghost use Rattle.gp_typing.specs.code.ExpressionView.{value_view};
+ghost use Rattle.gp_locals.specs.Environment as env;
+ghost use Rattle.gp_typing.specs.code.Pieces.{tested, counted, named, written, put_written, ended_annotated, ended_if, ended_while, ended_for, ended_next, append_statements};
 ghost use Rattle.gp_typing.specs.Typed as typed;
 ghost use Rattle.gp_typing.specs.Typed.{behind, no_statements, with_statement};
-ghost use Rattle.gp_environment.specs.View.{name_view};
 ghost use Rattle.gp_typing.specs.View.{expression_view, statement_kind_view, statements_view};
 
 use crate::assignments::{assign_name, assign_targets};
 use crate::ends::{
-    BlockTyping, Ends, StatementTyping, after, after_while, comes_back, goes_on, into_block,
-    is_within_reached, join_reached, one_of,
+    BlockTyping, Ends, StatementTyping, after_while, after_within, comes_back, goes_on, into_loop,
+    into_parts, join_reached, one_of,
 };
 use crate::fault::TypeFault;
 use crate::frame::{Frame, expr_in, value_in};
-use crate::operators::{is_bool, is_int};
+use crate::operators::{is_bool_value, is_int_value};
 use crate::typed::{TypedExpr, TypedStmt, TypedStmtKind, TypedStmts};
-use crate::value::into_expr;
+use crate::value::{Value, into_expr};
 use gp_base::{LineNo, Name};
-use gp_environment::{Environment, NameTypes};
-use gp_tree::{Expr, Stmt, Targets, TypeExpr, copy_name};
-use gp_types::{Ty, copy, same_type};
+use gp_locals::{Environment, UsableNames};
+use gp_tree::{Expr, Stmt, Targets, TypeExpr};
+use gp_types::{Ty, same_type};
 use std::alloc::{AllocError, Global};
 
 /// A block, from what is usable before it, where a path leads there. A statement that no path reaches is `Unreachable`.
@@ -47,26 +49,39 @@ pub fn check_block(
         ends: goes_on(start),
     };
     for stmt in block {
-        let line = line_of(stmt);
-        let BlockTyping { stmts, ends } = typed;
-        let Ends {
-            next,
-            breaks,
-            continues,
-        } = ends;
-        let Some(environment) = next else {
-            return Err(TypeFault::Unreachable(line));
-        };
-        let before = environment.usable(alloc, frame.names)?;
-        let statement = check_statement(alloc, stmt, frame, environment)?;
-        let ends = Ends {
-            next: None,
-            breaks,
-            continues,
-        };
-        typed = add_statement(alloc, line, BlockTyping { stmts, ends }, before, statement)?;
+        typed = check_next(alloc, stmt, frame, typed)?;
     }
     Ok(typed)
+}
+
+// The block with one more statement behind it.
+#[cycle(statements)]
+fn check_next(
+    alloc: Global,
+    stmt: &Stmt,
+    frame: &Frame<'_>,
+    block: BlockTyping,
+) -> Result<BlockTyping, TypeFault>
+    ensures { Answers block_view result (next_in frame.now (block_view block) (statement stmt.now)) }
+{
+    let line = line_of(stmt);
+    let BlockTyping { stmts, ends } = block;
+    let Ends {
+        next,
+        breaks,
+        continues,
+    } = ends;
+    let Some(mut environment) = next else {
+        return Err(TypeFault::Unreachable(line));
+    };
+    let before = environment.usable(alloc, frame.names)?;
+    let statement = check_statement(alloc, stmt, frame, environment)?;
+    let ends = Ends {
+        next: None,
+        breaks,
+        continues,
+    };
+    add_statement(alloc, line, BlockTyping { stmts, ends }, before, statement)
 }
 
 // The block with this statement behind it, where the types of the usable names there are within the limit.
@@ -74,24 +89,10 @@ fn add_statement(
     alloc: Global,
     line: LineNo,
     block: BlockTyping,
-    before: NameTypes,
+    before: UsableNames,
     typed: StatementTyping,
 ) -> Result<BlockTyping, TypeFault>
-    ensures { Answers block_view result (ended_next line (block_view block) (map name_view before) (statement_view typed)) }
-{
-    if !is_within_reached(&typed.ends.next) {
-        return Err(TypeFault::TooManyPlaces(line));
-    }
-    Ok(append(alloc, block, before, typed)?)
-}
-
-fn append(
-    alloc: Global,
-    block: BlockTyping,
-    before: NameTypes,
-    typed: StatementTyping,
-) -> Result<BlockTyping, AllocError>
-    ensures { IfOk result (λ made. block_view made ≡ with_typed (block_view block) (map name_view before) (statement_view typed)) }
+    ensures { Answers block_view result (ended_next line (block_view block) before (statement_view typed)) }
 {
     let StatementTyping { kind, ends } = typed;
     let BlockTyping {
@@ -99,18 +100,18 @@ fn append(
         ends: so_far,
     } = block;
     append_statement(&mut stmts, before, kind)?;
-    let ends = after(alloc, so_far, ends)?;
+    let ends = after_within(alloc, line, so_far, ends)?;
     Ok(BlockTyping { stmts, ends })
 }
 
 #[tactic(auto, using(crate::proofs::BlockViews::statements_view_last))]
 fn append_statement(
     stmts: &mut TypedStmts,
-    before: NameTypes,
+    before: UsableNames,
     kind: TypedStmtKind,
 ) -> Result<(), AllocError>
     ensures { OnOk result (statements_view stmts.new.items
-        ≡ append_statements (statements_view stmts.old.items) (with_statement (behind (map name_view before) (statement_kind_view kind)) no_statements)) }
+        ≡ append_statements (statements_view stmts.old.items) (with_statement (behind before (statement_kind_view kind)) no_statements)) }
 {
     stmts.push(TypedStmt { before, kind })?;
     Ok(())
@@ -154,28 +155,76 @@ fn check_statement(
         Stmt::Evaluate(line, value) => check_evaluate(alloc, frame, environment, *line, value),
         Stmt::Return(line, value) => check_return(alloc, frame, &environment, *line, value),
         Stmt::If(line, test, body, other) => {
-            let test = check_test(alloc, frame, &environment, *line, test)?;
-            let inside = environment.copy(alloc)?;
-            let body = check_block(alloc, body, frame, Some(inside))?;
-            let other = check_block(alloc, other, frame, Some(environment))?;
-            end_if(alloc, *line, test, body, other)
+            check_if(alloc, frame, environment, *line, test, body, other)
         }
-        Stmt::While(line, test, body) => {
-            let typed = check_test(alloc, frame, &environment, *line, test)?;
-            let inside = environment.copy(alloc)?;
-            let body = check_block(alloc, body, frame, Some(inside))?;
-            end_while(alloc, *line, test, typed, environment, body)
-        }
+        Stmt::While(line, test, body) => check_while(alloc, frame, environment, *line, test, body),
         Stmt::For(line, name, count, body) => {
-            let count = check_count(alloc, frame, &environment, *line, count)?;
-            let inside = check_counting(alloc, frame, &environment, *line, name)?;
-            let body = check_block(alloc, body, frame, Some(inside))?;
-            end_for(alloc, *line, name, count, environment, body)
+            check_for(alloc, frame, environment, *line, name, count, body)
         }
         Stmt::Break(line) => Ok(check_break(*line, environment)),
         Stmt::Continue(line) => Ok(check_continue(*line, environment)),
         Stmt::Pass(line) => Ok(check_pass(*line, environment)),
     }
+}
+
+// `if` with its two blocks: the test, then the blocks.
+#[cycle(statements)]
+fn check_if(
+    alloc: Global,
+    frame: &Frame<'_>,
+    environment: Environment,
+    line: LineNo,
+    test: &Expr,
+    body: &[Stmt],
+    other: &[Stmt],
+) -> Result<StatementTyping, TypeFault>
+    ensures { Answers statement_view result
+        (if_in frame.now environment line (expression test.now) (statements body.now) (statements other.now)) }
+{
+    let test = check_test(alloc, frame, &environment, line, test)?;
+    let inside = environment.copy(alloc)?;
+    let body = check_block(alloc, body, frame, Some(inside))?;
+    let other = check_block(alloc, other, frame, Some(environment))?;
+    end_if(alloc, line, test, body, other)
+}
+
+// `while`: the test, then the body.
+#[cycle(statements)]
+fn check_while(
+    alloc: Global,
+    frame: &Frame<'_>,
+    environment: Environment,
+    line: LineNo,
+    test: &Expr,
+    body: &[Stmt],
+) -> Result<StatementTyping, TypeFault>
+    ensures { Answers statement_view result
+        (while_in frame.now environment line (expression test.now) (statements body.now)) }
+{
+    let typed = check_test(alloc, frame, &environment, line, test)?;
+    let inside = environment.copy(alloc)?;
+    let body = check_block(alloc, body, frame, Some(inside))?;
+    end_while(alloc, line, test, typed, environment, body)
+}
+
+// `for`: the count, then the name, then the body.
+#[cycle(statements)]
+fn check_for(
+    alloc: Global,
+    frame: &Frame<'_>,
+    environment: Environment,
+    line: LineNo,
+    name: &Name,
+    count: &Expr,
+    body: &[Stmt],
+) -> Result<StatementTyping, TypeFault>
+    ensures { Answers statement_view result
+        (for_in frame.now environment line name.now (expression count.now) (statements body.now)) }
+{
+    let count = check_count(alloc, frame, &environment, line, count)?;
+    let inside = check_counting(alloc, frame, &environment, line, name)?;
+    let body = check_block(alloc, body, frame, Some(inside))?;
+    end_for(alloc, line, name, count, environment, body)
 }
 
 // `targets = value`: the value, then the targets.
@@ -191,12 +240,26 @@ fn check_assign(
         (statement_in frame.now environment (stmt.assign line targets.now (expression value.now))) }
 {
     let value = value_in(alloc, frame, &environment, line, value)?;
-    assign_targets(alloc, frame, &mut environment, line, targets, &value.ty)?;
+    put_targets(frame, &mut environment, line, targets, &value)?;
     let targets = targets.copy(alloc)?;
     Ok(StatementTyping {
         kind: TypedStmtKind::Assign(line, targets, into_expr(value)),
         ends: goes_on(Some(environment)),
     })
+}
+
+// The targets take the type of the value.
+fn put_targets(
+    frame: &Frame<'_>,
+    environment: &mut Environment,
+    line: LineNo,
+    targets: &Targets,
+    value: &Value,
+) -> Result<(), TypeFault>
+    ensures { Answers (λ _. environment.new) result
+        (spec.assigned (frame_view frame.now) environment.old line targets.now (ty_view value.now.ty)) }
+{
+    assign_targets(frame, environment, line, targets, &value.ty)
 }
 
 // `name: type = value`: the value, the written type, then the name.
@@ -214,15 +277,42 @@ fn check_annotated(
         (value_in frame.now environment line (expression value.now))) }
 {
     let value = value_in(alloc, frame, &environment, line, value)?;
-    check_written(frame, line, &value.ty)?;
-    let ty = copy(alloc, &value.ty)?;
-    assign_name(frame, &mut environment, line, name.as_str(), ty)?;
-    let name = copy_name(alloc, name)?;
-    let written = written.copy(alloc)?;
+    put_annotated(frame, &mut environment, line, name, &value)?;
+    let kind = annotated(alloc, line, name, written, value)?;
     Ok(StatementTyping {
-        kind: TypedStmtKind::Annotated(line, name, written, into_expr(value)),
+        kind,
         ends: goes_on(Some(environment)),
     })
+}
+
+// The name takes the type of the value, which is the type that is written on this line.
+fn put_annotated(
+    frame: &Frame<'_>,
+    environment: &mut Environment,
+    line: LineNo,
+    name: &Name,
+    value: &Value,
+) -> Result<(), TypeFault>
+    ensures { Answers (λ _. environment.new) result
+        (put_written (known_for frame.now) (frame_view frame.now) environment.old line name.now (ty_view value.now.ty)) }
+{
+    check_written(frame, line, &value.ty)?;
+    assign_name(frame, environment, line, name.as_str(), value.ty.copy()?)
+}
+
+fn annotated(
+    alloc: Global,
+    line: LineNo,
+    name: &Name,
+    written: &TypeExpr,
+    value: Value,
+) -> Result<TypedStmtKind, AllocError>
+    ensures { IfOk result (λ made. statement_kind_view made
+        ≡ typed.annotated line name.now (type_expression written.now) (value_view value).tree) }
+{
+    let name = name.copy()?;
+    let written = written.copy(alloc)?;
+    Ok(TypedStmtKind::Annotated(line, name, written, into_expr(value)))
 }
 
 // The type that is written on this line is this one.
@@ -273,7 +363,7 @@ fn check_return(
         }
         Some(value) => {
             let value = value_in(alloc, frame, environment, line, value)?;
-            if !is_result(&frame.signature.result, &value.ty) {
+            if !is_result(&frame.signature.result, &value) {
                 return Err(TypeFault::Mismatch(line));
             }
             TypedStmtKind::Return(line, Some(into_expr(value)))
@@ -285,13 +375,13 @@ fn check_return(
     })
 }
 
-// Whether a function with this result may return a value of this type.
-fn is_result(result_ty: &Option<Ty>, ty: &Ty) -> bool
-    ensures { result ≡ spec.is_result (option_map ty_view result_ty.now) (ty_view ty.now) }
+// Whether a function with this result may return this value.
+fn is_result(result_ty: &Option<Ty>, value: &Value) -> bool
+    ensures { result ≡ spec.is_result (option_map ty_view result_ty.now) (ty_view value.now.ty) }
 {
     match result_ty {
         None => false,
-        Some(result_ty) => same_type(result_ty, ty),
+        Some(result_ty) => same_type(result_ty, &value.ty),
     }
 }
 
@@ -306,7 +396,7 @@ fn check_test(
     ensures { Answers expression_view result (tested line (value_in frame.now environment.now line (expression test.now))) }
 {
     let test = value_in(alloc, frame, environment, line, test)?;
-    if !is_bool(&test.ty) {
+    if !is_bool_value(&test) {
         return Err(TypeFault::Mismatch(line));
     }
     Ok(into_expr(test))
@@ -323,7 +413,7 @@ fn check_count(
     ensures { Answers expression_view result (counted line (value_in frame.now environment.now line (expression count.now))) }
 {
     let count = value_in(alloc, frame, environment, line, count)?;
-    if !is_int(&count.ty) {
+    if !is_int_value(&count) {
         return Err(TypeFault::Mismatch(line));
     }
     Ok(into_expr(count))
@@ -392,13 +482,8 @@ fn end_if(
 ) -> Result<StatementTyping, TypeFault>
     ensures { Answers statement_view result (ended_if line (expression_view test) (block_view body) (block_view other)) }
 {
-    let BlockTyping { stmts, ends } = body;
-    let body = into_block(stmts, &ends);
-    let BlockTyping {
-        stmts,
-        ends: other_ends,
-    } = other;
-    let other = into_block(stmts, &other_ends);
+    let (body, ends) = into_parts(body);
+    let (other, other_ends) = into_parts(other);
     let ends = one_of(alloc, ends, other_ends)?;
     Ok(StatementTyping {
         kind: TypedStmtKind::If(line, test, body, other),
@@ -418,12 +503,26 @@ fn end_while(
     ensures { Answers statement_view result
         (ended_while line (expression written.now) (expression_view test) head (block_view body)) }
 {
-    if !comes_back(&head, &body.ends) {
+    if !comes_back(&head, &body) {
         return Err(TypeFault::LoopChangesType(line));
     }
-    let BlockTyping { stmts, ends } = body;
-    let block = into_block(stmts, &ends);
-    let next = after_while(alloc, written, head, ends.breaks)?;
+    Ok(while_ended(alloc, line, written, test, head, body)?)
+}
+
+fn while_ended(
+    alloc: Global,
+    line: LineNo,
+    written: &Expr,
+    test: TypedExpr,
+    head: Environment,
+    body: BlockTyping,
+) -> Result<StatementTyping, AllocError>
+    ensures { IfOk result (λ made. Ok (statement_view made)
+        ≡ spec.typed_as (typed.while_loop line (expression_view test) (spec.block_of (block_view body)))
+        (spec.goes_on (spec.after_while (expression written.now) head (block_view body).ends.breaks))) }
+{
+    let (block, breaks) = into_loop(body);
+    let next = after_while(alloc, written, head, breaks)?;
     Ok(StatementTyping {
         kind: TypedStmtKind::While(line, test, block),
         ends: goes_on(next),
@@ -442,13 +541,27 @@ fn end_for(
     ensures { Answers statement_view result
         (ended_for line name.now (expression_view count) head (block_view body)) }
 {
-    if !comes_back(&head, &body.ends) {
+    if !comes_back(&head, &body) {
         return Err(TypeFault::LoopChangesType(line));
     }
-    let BlockTyping { stmts, ends } = body;
-    let block = into_block(stmts, &ends);
-    let name = copy_name(alloc, name)?;
-    let next = join_reached(alloc, Some(head), ends.breaks)?;
+    Ok(for_ended(alloc, line, name, count, head, body)?)
+}
+
+fn for_ended(
+    alloc: Global,
+    line: LineNo,
+    name: &Name,
+    count: TypedExpr,
+    head: Environment,
+    body: BlockTyping,
+) -> Result<StatementTyping, AllocError>
+    ensures { IfOk result (λ made. Ok (statement_view made)
+        ≡ spec.typed_as (typed.for_loop line name.now (expression_view count) (spec.block_of (block_view body)))
+        (spec.goes_on (env.join_reached (Some head) (block_view body).ends.breaks))) }
+{
+    let name = name.copy()?;
+    let (block, breaks) = into_loop(body);
+    let next = join_reached(alloc, Some(head), breaks)?;
     Ok(StatementTyping {
         kind: TypedStmtKind::For(line, name, count, block),
         ends: goes_on(next),

@@ -10,7 +10,7 @@ ghost use Rattle.gp_scope.specs.Spelled.{struct_type_of};
 
 use gp_scope::Scope;
 use gp_tree::Item;
-use gp_types::{Ty, copy};
+use gp_types::Ty;
 use indexmap::IndexMap;
 use std::alloc::{AllocError, Global};
 
@@ -50,7 +50,7 @@ fn add_type(
     let Some(ty) = scope.struct_type(name) else {
         return Ok(());
     };
-    let ty = copy(alloc, ty)?;
+    let ty = ty.copy()?;
     table.insert(String::from_str(alloc, name)?, ty)?;
     Ok(())
 }

@@ -2,12 +2,12 @@
 //! before it.
 
 use gp_base::{LineNo, Name, TextBytes};
-use gp_environment::NameTypes;
+use gp_locals::UsableNames;
 use gp_tree::{BinOp, Place, Targets, TypeExpr};
 use gp_types::{Signature, Ty};
 
 /// An expression with its type.
-#[derive(Debug, Drop)]
+#[derive(Drop)]
 #[cycle(typed_expression)]
 pub struct TypedExpr {
     /// The type of the value; `None` for a string and for a call that answers nothing.
@@ -17,7 +17,7 @@ pub struct TypedExpr {
 }
 
 /// What an expression with a type is; the variants are those of [`gp_tree::Expr`].
-#[derive(Debug, Drop)]
+#[derive(Drop)]
 #[cycle(typed_expression)]
 pub enum TypedKind {
     /// A number.
@@ -50,17 +50,18 @@ pub enum TypedKind {
 pub type TypedExprs = Vec<TypedExpr>;
 
 /// A statement with the usable names before it.
-#[derive(Debug, Drop)]
+#[derive(Drop)]
 #[cycle(typed_statement)]
 pub struct TypedStmt {
     /// The usable names before the statement with their types, in the order of their first appearance in the function.
-    pub before: NameTypes,
+    /// Statements between which nothing changes share them.
+    pub before: UsableNames,
     /// The statement itself.
     pub kind: TypedStmtKind,
 }
 
 /// What a statement with its types is; the variants are those of [`gp_tree::Stmt`].
-#[derive(Debug, Drop)]
+#[derive(Drop)]
 #[cycle(typed_statement)]
 pub enum TypedStmtKind {
     /// `targets = value`.
@@ -86,7 +87,7 @@ pub enum TypedStmtKind {
 }
 
 /// A block of statements with their types.
-#[derive(Debug, Drop)]
+#[derive(Drop)]
 #[cycle(typed_statement)]
 pub struct TypedBlock {
     /// The statements in text order.
@@ -99,7 +100,7 @@ pub struct TypedBlock {
 pub type TypedStmts = Vec<TypedStmt>;
 
 /// A function with the types in its body.
-#[derive(Debug, Drop)]
+#[derive(Drop)]
 pub struct TypedFunction {
     /// The line of its `def`.
     pub line: LineNo,

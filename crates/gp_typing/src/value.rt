@@ -4,13 +4,13 @@ ghost use Rattle.std.specs.Prelude.{◌≡◌, ◌++◌, ◌∷◌, [], OnOk, ma
 ghost use Rattle.gp_types.specs.View.{ty_view};
 ghost use Rattle.gp_typing.specs.Checks.{Answers};
 ghost use Rattle.gp_typing.specs.Expressions.{value_of};
-ghost use Rattle.gp_typing.specs.ExpressionView.{value_view};
+ghost use Rattle.gp_typing.specs.code.ExpressionView.{value_view};
 ghost use Rattle.gp_typing.specs.View.{expression_view};
 
 use crate::fault::TypeFault;
 use crate::typed::{TypedExpr, TypedExprs, TypedKind};
 use gp_base::LineNo;
-use gp_types::{Ty, Tys, copy};
+use gp_types::{Ty, Tys};
 use std::alloc::{AllocError, Global};
 
 /// An expression that stands where a value is needed: it has a type.
@@ -65,11 +65,11 @@ impl Values {
     }
 
     /// One value more at the end.
-    pub fn push(&mut self, alloc: Global, value: Value) -> Result<(), AllocError>
+    pub fn push(&mut self, value: Value) -> Result<(), AllocError>
         ensures exprs { OnOk result (map expression_view self.new.exprs.items ≡ map expression_view self.old.exprs.items ++ (value_view value).tree ∷ []) }
         ensures types { OnOk result (map ty_view self.new.types.items ≡ map ty_view self.old.types.items ++ ty_view value.ty ∷ []) }
     {
-        self.types.push(copy(alloc, &value.ty)?)?;
+        self.types.push(value.ty.copy()?)?;
         self.exprs.push(into_expr(value))?;
         Ok(())
     }

@@ -1,6 +1,0 @@
-mod Delivered
-mod Discards
-mod Due
-mod ReadSoFar
-mod Served
-mod Told

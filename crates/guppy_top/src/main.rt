@@ -1,24 +1,13 @@
 //! The program `guppy`: compiles source texts of an integer profile of Guppy to program graphs, and runs them.
 #![tactic(auto)]
 
-mod compile;
-mod guppy;
-mod input;
-mod mode_error;
-mod output;
 mod real_files;
 mod real_sink;
-mod refusal;
-mod run;
-mod status;
-#[cfg(test)]
-mod tests;
-mod words;
 
 use gp_base::{Name, Names};
+use guppy_call::{Status, guppy};
 use real_files::RealFiles;
 use real_sink::RealSink;
-use status::Status;
 use std::alloc::AllocError;
 use std::env;
 use std::io::ErrorKind;
@@ -47,6 +36,6 @@ fn main(rt: HostRuntime) -> ExitCode {
     let mut files = RealFiles::new(&rt);
     let mut out = RealSink::new(rt.stdout());
     let mut err = RealSink::new(rt.stderr());
-    let status = guppy::guppy(alloc, &words, &mut files, &mut out, &mut err);
+    let status = guppy(alloc, &words, &mut files, &mut out, &mut err);
     ExitCode::from(status.code())
 }

@@ -126,7 +126,7 @@ impl<R: rt::Files + Input> Files for RealFiles<R> {
 #[cfg(test)]
 mod tests {
     use super::*;
-    use crate::input::read_input;
+    use guppy_call::read_input;
     use std::test::Fail;
 
     // Is interrupted once, and is at its end after that.

@@ -1,11 +1,12 @@
 //! The program that the benchmarks of graphs time. Its words are a task and a number: `grow` builds the graph of a function
-//! whose one qubit passes through as many gates, `chain` also tells whether that graph is valid and ordered, and `nest` does so
-//! of a function with as many regions, each in the one before it.
+//! whose one qubit passes through as many gates, `build` does so by the calls of the builder, `chain` also tells whether that
+//! graph is valid and ordered, and `nest` does so of a function with as many regions, each in the one before it.
 #![tactic(auto)]
 
 ghost use Rattle.std.specs.Prelude.{◌<◌, length, IfOk, OnOk};
 
 use gp_base::Name;
+use hg_build::{BuildFault, Region};
 use hg_graph::{Graph, NodeId, Port};
 use hg_ops::{OpKind, Row};
 use hg_valid::{Invalid, Valid, is_ordered, validate};
@@ -21,6 +22,7 @@ const FEW: u64 = 1000;
 #[derive(Clone, Copy, Debug)]
 enum Task {
     Grow,
+    Build,
     Chain,
     Nest,
 }
@@ -29,6 +31,7 @@ enum Task {
 fn task_of(word: &str) -> Option<Task> {
     match word {
         "grow" => Some(Task::Grow),
+        "build" => Some(Task::Build),
         "chain" => Some(Task::Chain),
         "nest" => Some(Task::Nest),
         _ => None,
@@ -125,6 +128,22 @@ fn chain(alloc: Global, gates: u64) -> Result<Graph, AllocError> {
     Ok(graph)
 }
 
+// The same graph, built by the calls of the builder.
+fn built_chain(alloc: Global, gates: u64) -> Result<Graph, BuildFault> {
+    let mut graph = Graph::new(alloc)?;
+    let name = Name::new(alloc, "main")?;
+    let (ins, outs) = (Row::new(alloc), Row::new(alloc));
+    let main = graph.add_node(OpKind::FuncDefn { name, ins, outs }, NodeId(0))?;
+    let (ins, outs) = (Row::new(alloc), Row::new(alloc));
+    let (mut region, wires) = Region::open(alloc, graph, main, ins, outs)?;
+    let mut wires = region.op(OpKind::Alloc, wires)?;
+    for _ in 0..gates {
+        wires = region.op(OpKind::H, wires)?;
+    }
+    let wires = region.op(OpKind::Free, wires)?;
+    region.finish(wires)
+}
+
 // Adds a region under a node, with its `Input` and its `Output`.
 fn add_region(graph: &mut Graph, alloc: Global, parent: NodeId) -> Result<NodeId, AllocError>
     requires { parent.0 < length graph.old.nodes }
@@ -167,16 +186,22 @@ fn verdict_of(alloc: Global, graph: Graph) -> Result<Verdict, AllocError> {
     }
 }
 
+// How large a graph is.
+fn size_of(graph: &Graph) -> Verdict {
+    Verdict::Grown {
+        nodes: graph.node_count(),
+        links: graph.link_count(),
+    }
+}
+
 // Does a task with this number of gates or regions.
 fn done(alloc: Global, task: Task, number: u64) -> Result<Verdict, AllocError> {
     match task {
-        Task::Grow => {
-            let graph = chain(alloc, number)?;
-            Ok(Verdict::Grown {
-                nodes: graph.node_count(),
-                links: graph.link_count(),
-            })
-        }
+        Task::Grow => Ok(size_of(&chain(alloc, number)?)),
+        Task::Build => match built_chain(alloc, number) {
+            Ok(graph) => Ok(size_of(&graph)),
+            Err(BuildFault::Memory) => Err(AllocError),
+        },
         Task::Chain => verdict_of(alloc, chain(alloc, number)?),
         Task::Nest => verdict_of(alloc, nest(alloc, number)?),
     }
@@ -186,7 +211,7 @@ fn main(rt: HostRuntime) -> anyhow::Result<()> {
     match job(&rt) {
         Some((task, number)) => println!(rt; "{}", done(rt.alloc(), task, number)?)?,
         None => {
-            for task in [Task::Grow, Task::Chain, Task::Nest] {
+            for task in [Task::Grow, Task::Build, Task::Chain, Task::Nest] {
                 println!(rt; "{}", done(rt.alloc(), task, FEW)?)?;
             }
         }

@@ -5,7 +5,7 @@ use Rattle.std.proofs.lemmas.List.Elements.{All-get_or}
 use Rattle.std.proofs.lemmas.Bool.Decides.{eqb_tells}
 use Rattle.hg_graph.specs.declared.graph.Node as declared
 use Rattle.hg_graph.specs.Graph.{Graph, parent_of, parent_at}
-use Rattle.hg_graph.specs.GraphIndex.{IsIndexed, IsFilled}
+use Rattle.hg_graph.specs.code.GraphIndex.{IsIndexed, IsFilled}
 use Rattle.hg_graph.specs.NodeIndex.{NodeIndex, fresh_index}
 use Rattle.hg_graph.specs.NodeView.{node_view}
 use Rattle.hg_ops.specs.OpView.{op_view}

@@ -7,7 +7,7 @@ use Rattle.std.proofs.lemmas.Bool.Decides.{eqb_tells}
 use Rattle.gp_base.specs.Membership.{In}
 use Rattle.hg_graph.specs.Graph.{Graph, Link, Ports, Order, Port, LinkIsWithin, IsGraph, numbers, op_at, parent_at, children}
 use Rattle.hg_graph.specs.NodeIndex.{NodeIndex, node_index, input_count, output_count, numbers_into, numbers_from, orders_into, orders_from, is_into, is_from, is_stray, is_order_into, is_order_from, with_input, with_output, with_before, with_after}
-use Rattle.hg_graph.specs.GraphIndex.{IsIndexed, updated, with_ports, with_order}
+use Rattle.hg_graph.specs.code.GraphIndex.{IsIndexed, updated, with_ports, with_order}
 use Rattle.hg_graph.proofs.LinkNumbers.{length-numbers, map-same, numbers-other, numbers-more, inputs-same, inputs-pushed, outputs-same, outputs-pushed, strays-same, strays-pushed}
 use Rattle.hg_graph.proofs.Updates.{length-updated, get-updated_same, get-updated_other}
 

@@ -7,7 +7,7 @@ use Rattle.hg_ops.specs.Op.{input_ports, output_ports}
 use Rattle.gp_base.specs.Membership.{In}
 use Rattle.hg_graph.specs.Graph.{Graph, Node, Link, Ports, Order, LinkIsWithin, IsGraph, numbers, op_of, op_at, parent_of, parent_at, children}
 use Rattle.hg_graph.specs.NodeIndex.{NodeIndex, node_index, input_count, output_count, numbers_into, numbers_from, orders_into, orders_from, is_into, is_from, is_stray, is_order_into, is_order_from, with_child, fresh_index}
-use Rattle.hg_graph.specs.GraphIndex.{IsIndexed, IsFilled, index_below, updated}
+use Rattle.hg_graph.specs.code.GraphIndex.{IsIndexed, IsFilled, index_below, updated}
 use Rattle.hg_graph.proofs.LinkNumbers.{eqb-other, and-false, map-copies, numbers-none}
 use Rattle.hg_graph.proofs.Updates.{length-updated, get-updated_same, get-updated_other}
 

@@ -6,7 +6,7 @@ use Rattle.std.proofs.lemmas.Bool.Decides.{eqb_tells}
 use Rattle.gp_base.specs.Membership.{In}
 use Rattle.hg_graph.specs.Graph.{Graph, Link, Ports, Order, Port, LinkIsWithin, numbers, is_port, feeder}
 use Rattle.hg_graph.specs.NodeIndex.{node_index, input_count, output_count, numbers_where, numbers_into, numbers_from, is_into, is_stray}
-use Rattle.hg_graph.specs.Sources.{source_of}
+use Rattle.hg_graph.specs.code.Sources.{source_of}
 use Rattle.hg_graph.proofs.LinkNumbers.{eqb-other, length-numbers}
 
 -- ---- lists by port

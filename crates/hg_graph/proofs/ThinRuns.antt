@@ -4,14 +4,14 @@ use Rattle.std.proofs.Math.Seq.{drop-nil}
 use Rattle.std.proofs.lemmas.Bool.Decides.{eqb_tells}
 use Rattle.gp_base.specs.declared.event.Event.{Event}
 use Rattle.gp_base.specs.declared.event.Event.TheVariants as event
-use Rattle.gp_base.specs.Run.{Out, Returned}
+use Rattle.gp_base.specs.Run.{Out, Returned, or_stuck}
 use Rattle.gp_base.specs.World.{World, next, is_live, ended, did}
 use Rattle.hg_ops.specs.GraphType as type
 use Rattle.hg_ops.specs.Op as op
 use Rattle.hg_ops.specs.Op.{Op, Extension, Ext, ins_of, extension_ins}
 use Rattle.hg_graph.specs.Graph.{Graph, op_at, children, firing_children, numbers, feeder}
 use Rattle.hg_graph.specs.Value.{Value, Qubit}
-use Rattle.hg_graph.specs.Run.{State, no_note, Enter, outs_at, has_fired, Fired, or_stuck, at_node, perform_extension, fire, firings, region, enter_op, level, resume, runs, run_function}
+use Rattle.hg_graph.specs.Run.{State, no_note, Enter, outs_at, has_fired, Fired, at_node, perform_extension, fire, firings, region, enter_op, level, resume, runs, run_function}
 use Rattle.hg_graph.specs.Thin.{ThinGate, H, X, gate_op, gate_name, in_main, thin_graph, thin_after, ThinGraphsRun}
 use Rattle.hg_graph.proofs.ThinNumbers.{length-numbers}
 use Rattle.hg_graph.proofs.ThinLinks.{first_port, feeder-chain}

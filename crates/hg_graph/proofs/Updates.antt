@@ -1,7 +1,7 @@
 -- Changes of what is kept of one node.
 use Rattle.std.proofs.Common.{◌≡◌, ◌<◌, ◌≢◌, ◌∷◌, ◌∙◌, [], ℕ, zero, suc, List, Some, length, slice_get, get_or, slice_set, refl, ap, subst, arith}
 use Rattle.hg_graph.specs.NodeIndex.{NodeIndex}
-use Rattle.hg_graph.specs.GraphIndex.{updated}
+use Rattle.hg_graph.specs.code.GraphIndex.{updated}
 
 pub length-updated : (n : ℕ) (f : NodeIndex → NodeIndex) (xs : List NodeIndex) → length (updated n f xs) ≡ length xs
 length-updated n f [] = refl

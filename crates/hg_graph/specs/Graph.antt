@@ -1,5 +1,5 @@
 -- Program graphs: a list of nodes and a list of links, with look-ups in them.
-use Rattle.std.specs.Prelude.{◌≡◌, ◌<◌, ℕ, zero, suc, ◌+◌, Bool, not, ◌&&◌, ◌==◌, if◌then◌else◌, List, [], ◌∷◌, length, slice_get, filter, Option, Some, None}
+use Rattle.std.specs.Prelude.{◌<◌, ℕ, zero, suc, ◌+◌, Bool, not, ◌&&◌, ◌==◌, if◌then◌else◌, List, [], ◌∷◌, length, slice_get, filter, Option, Some, None}
 use Rattle.gp_base.specs.Membership.{In}
 use Rattle.hg_ops.specs.Op.{Op, Module, ins_of, fires}
 

@@ -1,14 +1,12 @@
 pub mod Graph
-pub mod GraphIndex
 pub mod Moments
 pub mod NodeIndex
-pub mod NodeIndexView
 pub mod NodeView
 pub mod Ordered
 pub mod Rules
 pub mod Run
-pub mod Sources
 pub mod Thin
 pub mod Valid
 pub mod Value
 pub mod View
+pub mod code

@@ -4,7 +4,6 @@ use Rattle.hg_ops.specs.OpView.{op_view}
 use Rattle.hg_graph.specs.declared.graph.Node as declared
 use Rattle.hg_graph.specs.declared.graph.Graph.TheInside.{Inside}
 use Rattle.hg_graph.specs.Graph.{Node, Graph}
-use Rattle.hg_graph.specs.GraphIndex.{IsIndexed}
 use Rattle.hg_graph.specs.View.{link_view}
 
 abbrev pub node_view : declared.Node → Node
@@ -12,7 +11,3 @@ node_view node = record { op = op_view node.op; parent = node.parent.0 }
 
 abbrev pub graph_view : Inside → Graph
 graph_view g = record { nodes = map node_view g.nodes.items; links = map link_view g.links.items }
-
--- what is kept beside the lists fits them
-abbrev pub IsInStep : Inside → Type 0
-IsInStep g = IsIndexed (graph_view g) g.indexes.items

@@ -3,12 +3,13 @@ use Rattle.std.specs.Prelude.{ℕ, zero, suc, ◌%◌, ℤ, pos, int_lt, int_le,
 use Rattle.gp_base.specs.declared.event.Event.TheVariants as event
 use Rattle.gp_base.specs.declared.event.GateName.TheVariants as gate
 use Rattle.gp_base.specs.Number.{sum, difference, product, negated, quotient, remainder, is_same}
-use Rattle.gp_base.specs.Run.{Run, Out, Returned, Stopped, DivisionByZero, Stuck, ◌>>=◌, ret, stop}
+use Rattle.gp_base.specs.Run.{Run, Out, Returned, Stopped, DivisionByZero, Stuck, ◌>>=◌, ret, stop, or_stuck}
+use Rattle.gp_base.specs.Truth.{same_truth}
 use Rattle.gp_base.specs.World.{World, allocate, free, apply_gate, apply_gate_on_two, apply_gate_on_three, rotate, reset, measure, measure_free, does, take_turn}
 use Rattle.hg_ops.specs.Op as op
 use Rattle.hg_ops.specs.Op.{Op, Extension, Arithmetic, Division, Comparison, BoolComparison, ins_of, one_qubit_name, two_qubit_name, rotation_name}
 use Rattle.hg_graph.specs.Graph.{Graph, Link, Ports, Order, Port, op_at, children, firing_children, feeder, taker, static_input}
-use Rattle.hg_graph.specs.Value.{Value, Int, Qubit, Variant, values, packed, truth, truth_of}
+use Rattle.hg_graph.specs.Value.{Value, Int, Qubit, Variant, Function, values, packed, truth, truth_of, callee}
 
 -- ---- what a region has so far
 
@@ -142,9 +143,6 @@ compared op.Le a b = int_le a b
 compared op.Gt a b = int_lt b a
 compared op.Ge a b = int_le b a
 
-abbrev pub same_truth : Bool → Bool → Bool
-same_truth a b = if a then b else not b
-
 abbrev pub compared_bools : BoolComparison → Bool → Bool → Bool
 compared_bools op.BoolEq a b = same_truth a b
 compared_bools op.BoolNe a b = not (same_truth a b)
@@ -218,10 +216,6 @@ abbrev pub choose : {N A : Type 0} → List A → Run (State N) A
 choose [] s = stop Stuck s
 choose (x ∷ xs) s = pick_from x xs s.picks s
 
-abbrev pub or_stuck : {S A : Type 0} → Option A → Run S A
-or_stuck None = stop Stuck
-or_stuck (Some a) = ret a
-
 abbrev pub at_moment : {N : Type 0} → Note N → List Open → Run (State N) (Unit {0})
 at_moment note regions s = Returned tt (record s { notes = note regions s.world s.notes })
 
@@ -244,6 +238,16 @@ abbrev pub with_variant : {N : Type 0} → List Value → (ℕ → List Value �
 with_variant (Variant k vs ∷ others) go = go k (values vs ++ others)
 with_variant _ go = stop Stuck
 
+-- the name of a function, with the other values
+abbrev pub with_function : {N : Type 0} → List Value → (List ℕ → List Value → Run (State N) (List Value)) → Run (State N) (List Value)
+with_function (Function name ∷ others) go = go name others
+with_function _ go = stop Stuck
+
+-- the name of a function as a value
+abbrev pub name_of_function : {N : Type 0} → Op → Run (State N) (List Value)
+name_of_function (op.FuncDefn name ins outs) = ret (Function name ∷ [])
+name_of_function _ = stop Stuck
+
 abbrev pub constant : {N : Type 0} → Op → Run (State N) (List Value)
 constant (op.Const n) = ret (Int n ∷ [])
 constant _ = stop Stuck
@@ -260,6 +264,8 @@ module _ {N : Type 0} (note : Note N) (g : Graph) where
   fire_op inside again (op.TailLoop a l r) outer n vs = inside outer n vs
   fire_op inside again (op.Cfg ins outs) outer n vs = inside outer n vs
   fire_op inside again (op.Call ins outs) outer n vs = at_port (feeder g.links (static_input g n)) (λ f. after_turn again outer f vs)
+  fire_op inside again (op.CallIndirect ins outs) outer n vs = with_function vs (λ name us. at_node (callee g ins outs name) (λ f. after_turn again outer f us))
+  fire_op inside again (op.LoadFunction ins outs) outer n vs = at_port (feeder g.links (static_input g n)) (λ f. name_of_function (op_at g f))
   fire_op inside again op.LoadConstant outer n vs = at_port (feeder g.links (static_input g n)) (λ c. constant (op_at g c))
   fire_op inside again kind outer n vs = on_world (perform kind vs)
 

@@ -2,7 +2,7 @@
 use Rattle.std.specs.Prelude.{◌≡◌, ◌≢◌, ℕ, ◌<◌, Bool, true, false, List, [], ◌∷◌, ◌++◌, length, slice_get, Option, Some, None}
 use Rattle.gp_base.specs.Tag.{IsTag}
 use Rattle.hg_ops.specs.GraphType.{GraphType, is_linear}
-use Rattle.hg_ops.specs.Op.{Op, Types, Module, FuncDefn, Const, Input, Output, Dfg, Cfg, DataflowBlock, ExitBlock, Conditional, Case, TailLoop, Tag, Call, LoadConstant, Ext, ResultInt, ResultBool, PortKind, ValuePort, ControlPort, ins_of, outs_of, input_ports, output_ports, is_dataflow_container, is_operation, inner_ins, inner_outs}
+use Rattle.hg_ops.specs.Op.{Op, Types, Module, FuncDefn, Const, Input, Output, Dfg, Cfg, DataflowBlock, ExitBlock, Conditional, Case, TailLoop, Tag, Call, LoadConstant, LoadFunction, Ext, ResultInt, ResultBool, PortKind, ValuePort, ControlPort, ins_of, outs_of, input_ports, output_ports, is_dataflow_container, is_operation, inner_ins, inner_outs}
 use Rattle.gp_base.specs.Membership.{In}
 use Rattle.hg_graph.specs.Graph.{Graph, Port, Ports, Order, IsGraph, op_at, parent_at, children, feeder, taker, links_into, links_from, static_input}
 
@@ -174,8 +174,8 @@ pub record HasSuccessor (g : Graph) (n k : ℕ) (row others : Types) : Type 0 wh
 abbrev pub HasSuccessors : Graph → ℕ → List Types → Types → Type 0
 HasSuccessors g n rows others = (k : ℕ) (row : Types) → slice_get rows k ≡ Some row → HasSuccessor g n k row others
 
--- ---- 12. Each `Call` and `LoadConstant` has exactly one static link, and the parent of a linked `Const` is an ancestor
--- of the `LoadConstant`.
+-- ---- 12. Each `Call`, `LoadConstant` and `LoadFunction` has exactly one static link, and the parent of a linked `Const`
+-- is an ancestor of the `LoadConstant`.
 pub data IsAncestor (g : Graph) (a : ℕ) : ℕ → Type 0 where
   of_child : {n : ℕ} → parent_at g n ≡ a → IsAncestor g a n
   of_further : {n : ℕ} → IsAncestor g a (parent_at g n) → IsAncestor g a n
@@ -190,7 +190,7 @@ pub record HasConstant (g : Graph) (n : ℕ) : Type 0 where
   pub static : HasStatic g n
   pub seen : IsAncestor g (parent_at g static.source.node) n
 
--- ---- 13. A `Call` has the `ins` and `outs` of its `FuncDefn`.
+-- ---- 13. A `Call` and a `LoadFunction` have the `ins` and `outs` of their `FuncDefn`.
 pub record HasCallee (g : Graph) (n : ℕ) (ins outs : Types) : Type 0 where
   pub source : Port
   pub is_source : feeder g.links (static_input g n) ≡ Some source
@@ -254,11 +254,13 @@ KeepsSuccessors g n _ = Unit {0}
 
 abbrev pub KeepsStatic : Graph → ℕ → Op → Type 0
 KeepsStatic g n (Call ins outs) = HasStatic g n
+KeepsStatic g n (LoadFunction ins outs) = HasStatic g n
 KeepsStatic g n LoadConstant = HasConstant g n
 KeepsStatic g n _ = Unit {0}
 
 abbrev pub KeepsCallee : Graph → ℕ → Op → Type 0
 KeepsCallee g n (Call ins outs) = HasCallee g n ins outs
+KeepsCallee g n (LoadFunction ins outs) = HasCallee g n ins outs
 KeepsCallee g n _ = Unit {0}
 
 abbrev pub KeepsName : Graph → ℕ → Op → Type 0

@@ -1,17 +1,20 @@
 -- Values at ports, their types, and the qubits in them.
-use Rattle.std.specs.Prelude.{ℕ, zero, suc, ◌+◌, ℤ, Bool, true, false, ◌==◌, if◌then◌else◌, List, [], ◌∷◌, Option, Some, None}
+use Rattle.std.specs.Prelude.{ℕ, zero, suc, ◌+◌, ℤ, Bool, true, false, ◌==◌, if◌then◌else◌, ◌&&◌, List, [], ◌∷◌, Option, Some, None, ◌≡◌}
 use Rattle.std.specs.Str.{bytes_eq}
 use Rattle.hg_ops.specs.GraphType as type
-use Rattle.hg_ops.specs.GraphType.{GraphType, Row, Rows, no_types, next, no_rows, next_row}
+use Rattle.hg_ops.specs.GraphType.{GraphType, Row, Rows, no_types, next, no_rows, next_row, types}
 use Rattle.hg_ops.specs.Op.{Op, Types, FuncDefn}
-use Rattle.hg_graph.specs.Graph.{Node, Graph}
+use Rattle.hg_ops.specs.SameType.{same_types}
+use Rattle.hg_graph.specs.Graph.{Node, Graph, op_at}
 
 mutual
-  -- A whole number, a qubit by its number, or a variant of a Sum: the number of its row, with the row's values.
+  -- A whole number, a qubit by its number, a variant of a Sum: the number of its row, with the row's values, or a function
+  -- by its name.
   pub data Value : Type 0 where
     Int : ℤ → Value
     Qubit : ℕ → Value
     Variant : ℕ → Values → Value
+    Function : (name : List ℕ) → Value
 
   pub data Values : Type 0 where
     no_values : Values
@@ -46,17 +49,37 @@ pub record Signature : Type 0 where
 abbrev pub Functions : Type 0
 Functions = List ℕ → Option Signature
 
-abbrev pub signature_by : List ℕ → Op → Option Signature → Option Signature
-signature_by name (FuncDefn other ins outs) rest = if bytes_eq other name then Some (record { ins = ins; outs = outs }) else rest
-signature_by name _ rest = rest
+-- the number of the first function of a name among nodes, the first of which has number n
+abbrev pub place_by : List ℕ → ℕ → Op → Option ℕ → Option ℕ
+place_by name n (FuncDefn other ins outs) rest = if bytes_eq other name then Some n else rest
+place_by name n _ rest = rest
 
-abbrev pub signature_among : List Node → List ℕ → Option Signature
-signature_among [] name = None
-signature_among (node ∷ nodes) name = signature_by name node.op (signature_among nodes name)
+abbrev pub place_among : List Node → ℕ → List ℕ → Option ℕ
+place_among [] n name = None
+place_among (node ∷ nodes) n name = place_by name n node.op (place_among nodes (suc n) name)
+
+unfoldable pub function_named : Graph → List ℕ → Option ℕ
+function_named g name = place_among g.nodes 0 name
+
+abbrev pub signature_of : Op → Option Signature
+signature_of (FuncDefn name ins outs) = Some (record { ins = ins; outs = outs })
+signature_of _ = None
+
+abbrev pub signature_at : Graph → Option ℕ → Option Signature
+signature_at g None = None
+signature_at g (Some f) = signature_of (op_at g f)
 
 -- the functions of a graph
 unfoldable pub functions : Graph → Functions
-functions g name = signature_among g.nodes name
+functions g name = signature_at g (function_named g name)
+
+abbrev pub is_signature : Types → Types → Option Signature → Bool
+is_signature ins outs None = false
+is_signature ins outs (Some signature) = same_types signature.ins ins && same_types signature.outs outs
+
+-- the number of the function of a name, where it has these types
+unfoldable pub callee : Graph → Types → Types → List ℕ → Option ℕ
+callee g ins outs name = if is_signature ins outs (functions g name) then function_named g name else None
 
 -- row k of a Sum
 abbrev pub row_at : Rows → ℕ → Option Row
@@ -64,18 +87,26 @@ row_at no_rows k = None
 row_at (next_row r rs) zero = Some r
 row_at (next_row r rs) (suc k) = row_at rs k
 
--- A value is of a type, where these functions are there. A variant has the values of its row.
+-- A value is of a type, where these functions are there. A variant has the values of its row, and a function's name is of
+-- the function's type.
 abbrev mutual
   pub HasType : Functions → Value → GraphType → Type 0
   HasType F (Int n) type.Int = Unit {0}
   HasType F (Int n) type.Qubit = ⊥
   HasType F (Int n) (type.Sum rs) = ⊥
+  HasType F (Int n) (type.Function i o) = ⊥
   HasType F (Qubit q) type.Int = ⊥
   HasType F (Qubit q) type.Qubit = Unit {0}
   HasType F (Qubit q) (type.Sum rs) = ⊥
+  HasType F (Qubit q) (type.Function i o) = ⊥
   HasType F (Variant k vs) type.Int = ⊥
   HasType F (Variant k vs) type.Qubit = ⊥
   HasType F (Variant k vs) (type.Sum rs) = HasRow F vs (row_at rs k)
+  HasType F (Variant k vs) (type.Function i o) = ⊥
+  HasType F (Function name) type.Int = ⊥
+  HasType F (Function name) type.Qubit = ⊥
+  HasType F (Function name) (type.Sum rs) = ⊥
+  HasType F (Function name) (type.Function i o) = F name ≡ Some (record { ins = types i; outs = types o })
 
   pub HasRow : Functions → Values → Option Row → Type 0
   HasRow F no_values None = ⊥
@@ -100,6 +131,7 @@ abbrev mutual
   uses q (Int n) = 0
   uses q (Qubit p) = if p == q then 1 else 0
   uses q (Variant k vs) = uses_packed q vs
+  uses q (Function name) = 0
 
   pub uses_packed : ℕ → Values → ℕ
   uses_packed q no_values = 0

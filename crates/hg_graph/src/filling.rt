@@ -2,7 +2,7 @@
 
 ghost use Rattle.std.specs.Prelude.{◌≡◌, ◌<◌, [], length, map, All, IfOk, OnOk};
 ghost use Rattle.hg_ops.specs.OpView.{op_view};
-ghost use Rattle.hg_graph.specs.GraphIndex.{IsIndexed, IsFilled};
+ghost use Rattle.hg_graph.specs.code.GraphIndex.{IsIndexed, IsFilled};
 ghost use Rattle.hg_graph.specs.NodeIndex.{fresh_index};
 ghost use Rattle.hg_graph.specs.NodeView.{node_view};
 
@@ -10,7 +10,7 @@ use crate::graph::Node;
 use crate::indexes::push_child;
 use crate::link::NodeId;
 use crate::node_index::NodeIndex;
-use hg_ops::{input_count, output_count};
+use hg_ops::{OpKind, input_count, output_count};
 use std::alloc::{AllocError, Global};
 
 /// What is kept of these nodes, where there are no links.
@@ -24,13 +24,20 @@ pub(crate) fn indexes_of(alloc: Global, nodes: &[Node]) -> Result<Vec<NodeIndex>
     Ok(indexes)
 }
 
-// What is kept of nodes without children and links.
+/// What is kept of a node with this op, without children and links.
+pub(crate) fn fresh_index(alloc: Global, op: &OpKind) -> Result<NodeIndex, AllocError>
+    ensures { IfOk result (λ index. index ≡ fresh_index (op_view op.now)) }
+{
+    NodeIndex::new(alloc, input_count(op), output_count(op))
+}
+
+// The same of several nodes.
 fn fresh_indexes(alloc: Global, nodes: &[Node]) -> Result<Vec<NodeIndex>, AllocError>
     ensures { IfOk result (λ indexes. indexes.items ≡ map (λ node. fresh_index (op_view node.op)) nodes.now) }
 {
     let mut indexes = Vec::new(alloc);
     for node in nodes {
-        indexes.push(NodeIndex::new(alloc, input_count(&node.op), output_count(&node.op))?)?;
+        indexes.push(fresh_index(alloc, &node.op)?)?;
     }
     Ok(indexes)
 }

@@ -1,20 +1,17 @@
 //! Graphs, as a list of nodes and a list of links.
 
-#[cfg(test)]
-mod tests;
-
 use crate::filling::indexes_of;
-use crate::indexes::{push_node, push_order, push_ports};
+use crate::indexes::{append, push_index, push_order, push_ports};
 use crate::link::{Link, NodeId, Port};
 use crate::node_index::NodeIndex;
 use crate::sources::{first_source, source_at};
 use gp_base::Sequence;
-use hg_ops::{OpKind, input_count, output_count};
+use hg_ops::OpKind;
 use std::alloc::{AllocError, Global};
 use std::marker::Model;
 
 /// A node of a graph.
-#[derive(Debug, Drop)]
+#[derive(Drop)]
 pub struct Node {
     /// What the node does.
     pub op: OpKind,
@@ -28,7 +25,7 @@ pub type Nodes = Sequence<Node>;
 /// A program graph that grows: nodes are numbered in the order in which they are added. A contract sees
 /// it as the list of its nodes and the list of its links. Beside them it keeps the children of each node and the links
 /// at each of its ports, so that a look-up takes the same time in a large graph as in a small one.
-#[derive(Debug, Drop)]
+#[derive(Drop)]
 pub struct Graph {
     nodes: Vec<Node>,
     links: Vec<Link>,
@@ -41,11 +38,12 @@ impl Model for Graph {
     ghost Value = { spec.Graph };
 
     ghost use Rattle.std.specs.Coded.{codes};
-    ghost use Rattle.hg_ops.specs.TypeCode.{coded_type};
+    ghost use Rattle.hg_ops.specs.code.TypeCode.{coded_type};
 
     ghost coded = { Prim.hlevel (codes, coded_type) };
 
-    ghost use Rattle.hg_graph.specs.NodeView.{graph_view, IsInStep};
+    ghost use Rattle.hg_graph.specs.NodeView.{graph_view};
+    ghost use Rattle.hg_graph.specs.code.InStep.{IsInStep};
 
     ghost view = { graph_view };
 
@@ -105,11 +103,8 @@ impl Graph {
         ensures err { OnErr result (self.new ≡ self.old) }
     {
         let number = NodeId(self.nodes.len() as u64);
-        let alloc = *self.nodes.allocator();
-        let index = NodeIndex::new(alloc, input_count(&op), output_count(&op))?;
-        self.nodes.reserve(1)?;
-        push_node(&mut self.indexes, parent, index)?;
-        self.nodes.push(Node { op, parent })?;
+        push_index(&mut self.nodes, &mut self.indexes, parent, &op)?;
+        append(&mut self.nodes, Node { op, parent })?;
         Ok(number)
     }
 

@@ -1,16 +1,49 @@
 //! What a graph keeps of its nodes beside its lists.
 
-ghost use Rattle.std.specs.Prelude.{◌≡◌, ◌<◌, ◌≤◌, vec_capacity, ℕ, List, ◌∷◌, ◌++◌, [], length, OnOk, OnErr};
-ghost use Rattle.hg_graph.specs.GraphIndex.{updated, with_ports, with_order};
-ghost use Rattle.hg_graph.specs.NodeIndex.{NodeIndex as SpecIndex, with_child, with_input, with_output, with_before, with_after};
+ghost use Rattle.std.specs.Prelude.{◌≡◌, ◌<◌, ◌≤◌, vec_len, vec_capacity, ℕ, List, ◌∷◌, ◌++◌, [], length, OnOk, OnErr};
+ghost use Rattle.hg_graph.specs.code.GraphIndex.{updated, with_ports, with_order};
+ghost use Rattle.hg_ops.specs.OpView.{op_view};
+ghost use Rattle.hg_graph.specs.NodeIndex.{NodeIndex as SpecIndex, fresh_index, with_child, with_input, with_output, with_before, with_after};
 ghost use Rattle.hg_graph.specs.View.{port_view, link_view};
 
+use crate::filling::fresh_index;
+use crate::graph::Node;
 use crate::link::{Link, NodeId, Port};
 use crate::node_index::NodeIndex;
+use hg_ops::OpKind;
 use std::alloc::AllocError;
 
-/// Appends what is kept of a new node, and makes the node a child. After an error nothing has changed.
-pub(crate) fn push_node(
+/// Makes room for a node with this op, appends what is kept of it, and makes it a child. After an error nothing has
+/// changed but the room.
+pub(crate) fn push_index(
+    nodes: &mut Vec<Node>,
+    indexes: &mut Vec<NodeIndex>,
+    parent: NodeId,
+    op: &OpKind,
+) -> Result<(), AllocError>
+    requires { parent.0 < length indexes.old.items }
+    ensures kept { nodes.new.items ≡ nodes.old.items }
+    ensures room { OnOk result (vec_len nodes.new < vec_capacity nodes.new) }
+    ensures ok { OnOk result (indexes.new.items ≡ updated parent.0 (with_child (length indexes.old.items)) indexes.old.items ++ fresh_index (op_view op.now) ∷ []) }
+    ensures err { OnErr result (indexes.new.items ≡ indexes.old.items) }
+{
+    nodes.reserve(1)?;
+    let alloc = *nodes.allocator();
+    let index = fresh_index(alloc, op)?;
+    push_node(indexes, parent, index)
+}
+
+/// Appends a node. Where there is room for it this doesn't fail.
+pub(crate) fn append(nodes: &mut Vec<Node>, node: Node) -> Result<(), AllocError>
+    ensures ok { OnOk result (nodes.new.items ≡ nodes.old.items ++ node ∷ []) }
+    ensures full { OnErr result (vec_capacity nodes.old ≤ vec_len nodes.old) }
+{
+    nodes.push(node)?;
+    Ok(())
+}
+
+// Appends what is kept of a new node, and makes the node a child. After an error nothing has changed.
+fn push_node(
     indexes: &mut Vec<NodeIndex>,
     parent: NodeId,
     node: NodeIndex,

@@ -8,7 +8,7 @@ use std::marker::Model;
 
 /// The children of a node and the numbers of the links at it, by port. A link into an input that the node's op doesn't
 /// have is kept in a side list, so that the number of such an input takes no room.
-#[derive(Debug, Drop)]
+#[derive(Drop)]
 pub(crate) struct NodeIndex {
     children: Vec<NodeId>,
     inputs: Vec<Numbers>,
@@ -23,7 +23,7 @@ impl Model for NodeIndex {
 
     ghost Value = { spec.NodeIndex };
 
-    ghost use Rattle.hg_graph.specs.NodeIndexView.{node_index_view};
+    ghost use Rattle.hg_graph.specs.code.NodeIndexView.{node_index_view};
 
     ghost view = { node_index_view };
 }

@@ -3,7 +3,7 @@
 ghost use Rattle.std.specs.Prelude.{◌≡◌, map, slice_get, option_and_then};
 ghost use Rattle.std.specs.Option.{option_map};
 ghost use Rattle.hg_graph.specs.Graph.{feeder};
-ghost use Rattle.hg_graph.specs.Sources.{source_of};
+ghost use Rattle.hg_graph.specs.code.Sources.{source_of};
 ghost use Rattle.hg_graph.specs.View.{port_view, link_view};
 
 use crate::link::{Link, Port};

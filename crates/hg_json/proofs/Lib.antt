@@ -1,7 +1,16 @@
 pub mod Back
 pub mod Compact
+pub mod Floats
+pub mod Names
 pub mod Pieces
 pub mod Plain
 pub mod Pushes
-pub mod Served
+pub mod ReadGraphs
+pub mod ReadTexts
+pub mod ReadTypes
+pub mod ReadValues
+pub mod Separated
 pub mod Turns
+pub mod TypeBack
+pub mod TypePushes
+pub mod Yields

@@ -1,4 +1,4 @@
--- Lists of no items and of two, how many items there are, and the data of a text.
+-- Lists of two items, how many items there are, and the data of a text.
 use Rattle.std.proofs.Common.{◌≡◌, ℕ, suc, List, [], ◌∷◌, length, get_or, Some, None, Ok, Err, Bool, true, false, IsUtf8, refl, ap, arith}
 use Rattle.std.proofs.lemmas.Str.{IsUtf8-from_is_utf8, is_utf8-from_IsUtf8}
 use Rattle.std.specs.Str.{is_utf8}
@@ -6,15 +6,8 @@ use Rattle.serde_json.specs.Data.{Data}
 use Rattle.serde_json.specs.Read.{read}
 use Rattle.serde_json.specs.View.{view, items_view}
 use Rattle.serde_json.specs.declared.value.Value.{Value}
-use Rattle.hg_json.specs.Reading.{NotJson, no_types, two, count, value_of, or_refuse, when}
-
-pub no_types_some : (vs : List Value) → length vs ≡ 0 → no_types (items_view vs) ≡ Some tt
-no_types_some [] none = refl
-no_types_some (v ∷ vs) none = absurd (omega arith)
-
-pub no_types_none : (vs : List Value) → (length vs ≡ 0 → ⊥) → no_types (items_view vs) ≡ None
-no_types_none [] some = absurd (some refl)
-no_types_none (v ∷ vs) some = refl
+use Rattle.hg_json.specs.Reading.{NotJson, two, count, value_of, or_refuse}
+use Rattle.hg_json.specs.Steps.{when}
 
 pub two_none : (vs : List Value) → (length vs ≡ 2 → ⊥) → two (items_view vs) ≡ None
 two_none [] h = refl

@@ -3,32 +3,12 @@ use Rattle.std.proofs.Common.{◌≡◌, ℕ, ◌+◌, ◌<◌, List, ◌∷◌,
 use Rattle.std.specs.Prelude.{codes}
 use Rattle.std.proofs.lemmas.Bool.{lt-ltb}
 use Rattle.std.proofs.lemmas.List.{drop_more}
-use Rattle.std.proofs.lemmas.List.Elements.{All-get_or}
 use Rattle.std.proofs.lemmas.Option.{get_or_from_slice_get, slice_get-get_or}
 use Rattle.serde_json.specs.Data.{Data, string, array, object, Items, no_members, member}
-use Rattle.serde_json.specs.Written.{comma_if, compact_text, items_text, has_float}
+use Rattle.serde_json.specs.Written.{comma_if, compact_text, items_text}
 use Rattle.serde_json.proofs.OnLiterals.{serde_json_on_literals}
-use Rattle.hg_ops.specs.Op.{Op, Module, FuncDefn, Input, Output, Ext, Alloc, Gate1, H, X, Free}
-use Rattle.hg_graph.specs.Graph.{Node, Link, Ports, Order, Graph, op_at, parent_at}
-use Rattle.hg_json.specs.GraphText.{IsServed, AreServed, array_of, node_data, node_members, link_data, graph_data, json}
-
--- ---- no node and no link has a float
-
-pub node-whole : (op : Op) (parent : ℕ) → has_float (object (node_members op parent)) ≡ false
-unfolding node_members
-node-whole Module parent = refl
-node-whole (FuncDefn name ins outs) parent = refl
-node-whole (Input types) parent = refl
-node-whole (Output types) parent = refl
-node-whole (Ext Alloc) parent = refl
-node-whole (Ext (Gate1 H)) parent = refl
-node-whole (Ext (Gate1 X)) parent = refl
-node-whole (Ext Free) parent = refl
-node-whole _ parent = refl
-
-pub link-whole : (link : Link) → has_float (link_data link) ≡ false
-link-whole (Ports from to) = refl
-link-whole (Order before after) = refl
+use Rattle.hg_graph.specs.Graph.{Node, Link, Graph, op_at, parent_at}
+use Rattle.hg_json.specs.GraphText.{array_of, node_data, link_data, graph_data, json}
 
 -- ---- a loop that writes one entry after the other
 
@@ -53,27 +33,21 @@ pub node-read : (g : Graph) (k : ℕ) (d : Node) → k < length g.nodes → reco
 unfolding op_at parent_at
 node-read g k d within = rw (slice_get-get_or g.nodes k d within) refl
 
-pub served_at : (g : Graph) (k : ℕ) → AreServed g → k < length g.nodes → IsServed (op_at g k)
-unfolding op_at
-served_at g k served within =
-    let d : Node = record { op = Module; parent = 0 } in
-    rw (slice_get-get_or g.nodes k d within) (All-get_or (λ (n : Node). IsServed n.op) g.nodes k d within served)
-
 -- ---- the whole text from its pieces
 
 pieces : (es ns : Items)
-    → codes "{\"edges\":[" ++ (items_text false es ++ (codes ",\"nodes\":[" ++ (items_text false ns ++ codes ",\"version\":\"profile-1\"}")))
-    ≡ compact_text (object (member (codes "edges") (array es) (member (codes "nodes") (array ns) (member (codes "version") (string (codes "profile-1")) no_members))))
+    → codes "{\"edges\":[" ++ (items_text false es ++ (codes ",\"nodes\":[" ++ (items_text false ns ++ codes ",\"version\":\"profile-2\"}")))
+    ≡ compact_text (object (member (codes "edges") (array es) (member (codes "nodes") (array ns) (member (codes "version") (string (codes "profile-2")) no_members))))
 unfolding serde_json_on_literals
 pieces es ns = refl
 
 pub whole_text : (g : Graph)
-    → (((codes "{\"edges\":[" ++ items_text false (array_of link_data g.links)) ++ codes ",\"nodes\":[") ++ items_text false (array_of node_data g.nodes)) ++ codes ",\"version\":\"profile-1\"}" ≡ json g
+    → (((codes "{\"edges\":[" ++ items_text false (array_of link_data g.links)) ++ codes ",\"nodes\":[") ++ items_text false (array_of node_data g.nodes)) ++ codes ",\"version\":\"profile-2\"}" ≡ json g
 unfolding json graph_data
 whole_text g =
     let es = items_text false (array_of link_data g.links) in
     let ns = items_text false (array_of node_data g.nodes) in
     let a = codes "{\"edges\":[" in
     let b = codes ",\"nodes\":[" in
-    let c = codes ",\"version\":\"profile-1\"}" in
+    let c = codes ",\"version\":\"profile-2\"}" in
     append_assoc ((a ++ es) ++ b) ns c ∙ append_assoc (a ++ es) b (ns ++ c) ∙ append_assoc a es (b ++ (ns ++ c)) ∙ pieces (array_of link_data g.links) (array_of node_data g.nodes)

@@ -1,5 +1,5 @@
 -- Reading entries one after the other, as a loop does.
-use Rattle.std.proofs.Common.{◌≡◌, ℕ, suc, ◌+◌, ◌<◌, ◌≤◌, List, [], ◌∷◌, ◌++◌, length, drop, get_or, Option, Result, Ok, Err, refl, sym, ap, ◌∙◌, append_assoc, arith}
+use Rattle.std.proofs.Common.{◌≡◌, ℕ, suc, ◌+◌, ◌<◌, ◌≤◌, List, [], ◌∷◌, ◌++◌, length, drop, get_or, Option, Some, None, Result, Ok, Err, refl, sym, ap, ◌∙◌, append_assoc, arith}
 use Rattle.std.proofs.lemmas.List.{append-nil, drop_more, drop_all}
 use Rattle.serde_json.specs.Data.{Data, Items}
 use Rattle.serde_json.specs.View.{view, items_view}
@@ -7,8 +7,46 @@ use Rattle.serde_json.specs.declared.value.Value.{Value}
 use Rattle.hg_json.specs.declared.fault.JsonFault.{JsonFault}
 use Rattle.hg_json.specs.declared.fault.JsonFault.TheVariants as fault
 use Rattle.hg_graph.specs.Graph.{Node, Graph}
-use Rattle.hg_json.specs.Reading.{Refusal, BadLink, after, or_refuse, each, link_of, linked}
+use Rattle.hg_json.specs.declared.fault.Miss.{Miss}
+use Rattle.hg_json.specs.declared.fault.Miss.TheVariants as miss
+use Rattle.hg_json.specs.Reading.{Refusal, BadLink, all_of, after, or_refuse, each, link_of, linked}
+use Rattle.hg_json.specs.Steps.{◌>>=◌}
+use Rattle.hg_json.specs.code.Found.{Misses}
 use Rattle.hg_json.specs.Answers.{Refuses}
+
+-- ---- items that all have to stand for something
+
+-- what was found before, and then the rest
+abbrev pub with_found : {A : Type 0} → List A → Option (List A) → Option (List A)
+with_found front found = found >>= λ xs. Some (front ++ xs)
+
+regroup_found : {A : Type 0} (front : List A) (x : A) (found : Option (List A)) → with_found front (found >>= λ xs. Some (x ∷ xs)) ≡ with_found (front ++ x ∷ []) found
+regroup_found front x (Some xs) = ap Some (sym (append_assoc front (x ∷ []) xs))
+regroup_found front x None = refl
+
+module _ {A : Type 0} (f : Data → Option A) (front : List A) (vs : List Value) (k : ℕ) (total : Option (List A)) (so_far : with_found front (all_of f (items_view (drop k vs))) ≡ total) where
+  pub next_found : (v : Value) (x : A) → k < length vs → v ≡ get_or vs k v → f (view v) ≡ Some x → with_found (front ++ x ∷ []) (all_of f (items_view (drop (k + 1) vs))) ≡ total
+  unfolding all_of
+  next_found v x lt is h =
+      let here : drop k vs ≡ v ∷ drop (k + 1) vs = drop_more vs k v lt ∙ ap (λ y. y ∷ drop (k + 1) vs) (sym is) in
+      let one : with_found front (all_of f (items_view (drop k vs))) ≡ with_found (front ++ x ∷ []) (all_of f (items_view (drop (k + 1) vs))) = rw (here, h) (regroup_found front x (all_of f (items_view (drop (k + 1) vs)))) in
+      sym one ∙ so_far
+
+  pub missed : (e : Miss) (v : Value) → k < length vs → v ≡ get_or vs k v → Misses e (f (view v)) → Misses e total
+  unfolding all_of
+  missed miss.Memory v lt is h = tt
+  missed miss.Shape v lt is h =
+      let here : drop k vs ≡ v ∷ drop (k + 1) vs = drop_more vs k v lt ∙ ap (λ y. y ∷ drop (k + 1) vs) (sym is) in
+      let one : with_found front (all_of f (items_view (drop k vs))) ≡ None = rw (here, h) refl in
+      sym so_far ∙ one
+
+  pub all_found : length vs ≤ k → total ≡ Some front
+  unfolding all_of
+  all_found le =
+      let one : with_found front (all_of f (items_view (drop k vs))) ≡ Some front = rw (drop_all k vs le) (ap Some (append-nil front)) in
+      sym so_far ∙ one
+
+-- ---- entries, of which the first that stands for nothing is named
 
 -- what was read before, and then the rest
 abbrev pub with_front : {A : Type 0} → List A → Result (List A) Refusal → Result (List A) Refusal

@@ -1,26 +1,9 @@
--- What a function of this crate answers, beside the definitions of reading: `view` is what contracts see
--- of the value in hand. Memory may run out at any time.
-use Rattle.std.specs.Prelude.{◌≡◌, Option, Some, None, Result, Ok, Err, ⊤}
-use Rattle.hg_json.specs.declared.fault.Miss.{Miss}
-use Rattle.hg_json.specs.declared.fault.Miss.TheVariants as miss
+-- What reading answers, beside its definition: `view` is what contracts see of the value in hand. Memory may run out at any
+-- time.
+use Rattle.std.specs.Prelude.{◌≡◌, Result, Ok, Err, ⊤}
 use Rattle.hg_json.specs.declared.fault.JsonFault.{JsonFault}
 use Rattle.hg_json.specs.declared.fault.JsonFault.TheVariants as fault
 use Rattle.hg_json.specs.Reading.{Refusal, NotJson, Top, Version, BadNode, BadLink}
-
--- an option that is what was to be found
-abbrev pub Finds : {A B : Type 0} → (A → B) → Option A → Option B → Type 0
-Finds view None found = found ≡ None
-Finds view (Some x) found = found ≡ Some (view x)
-
--- nothing was to be found, unless memory ran out
-abbrev pub Misses : {B : Type 0} → Miss → Option B → Type 0
-Misses miss.Memory found = ⊤
-Misses miss.Shape found = found ≡ None
-
--- a result that is what was to be found
-abbrev pub Gives : {A B : Type 0} → (A → B) → Result A Miss → Option B → Type 0
-Gives view (Ok x) found = found ≡ Some (view x)
-Gives view (Err e) found = Misses e found
 
 -- this refusal was to be read, unless memory ran out
 abbrev pub Refuses : {B : Type 0} → JsonFault → Result B Refusal → Type 0

@@ -1,11 +1,17 @@
 -- The text of a graph: its data, written as `serde_json` writes it, without blanks and with the keys of
 -- each object in the rising order of their bytes.
-use Rattle.std.specs.Prelude.{◌≡◌, ℕ, List, [], map, codes, All, ⊤}
+use Rattle.std.specs.Prelude.{ℕ, ℤ, List, map, codes}
 use Rattle.serde_json.specs.Data.{unsigned, Data, null, number, string, array, object, Items, no_items, item, Members, no_members, member}
+use Rattle.serde_json.specs.Find.{of_integer}
 use Rattle.serde_json.specs.View.{items_of}
 use Rattle.serde_json.specs.Written.{compact_text}
-use Rattle.hg_ops.specs.Op.{Op, Module, FuncDefn, Input, Output, Ext, Alloc, Gate1, H, X, Free}
+use Rattle.hg_ops.specs.GraphType.{GraphType}
+use Rattle.hg_ops.specs.Names.{ext_op_name}
+use Rattle.hg_ops.specs.Op.{Types, Op, Module, FuncDefn, Const, Input, Output, Dfg, Cfg, DataflowBlock, ExitBlock, Conditional, Case, TailLoop, Tag, Call, CallIndirect, LoadConstant, LoadFunction, Ext, Extension, ResultInt, ResultBool, Unpack}
+use Rattle.hg_ops.specs.declared.ext_op.ExtOp.TheVariants as ext
 use Rattle.hg_graph.specs.Graph.{Node, Link, Ports, Order, Graph}
+use Rattle.hg_json.specs.ExtNames.{ext_op_of}
+use Rattle.hg_json.specs.TypeText.{type_text}
 
 -- the data of each entry
 abbrev pub array_of : {A : Type 0} → (A → Data) → List A → Items
@@ -15,9 +21,15 @@ array_of f xs = items_of (map f xs)
 abbrev pub natural : ℕ → Data
 natural n = number (unsigned n)
 
--- a list of types; so far none is served that has a type
-abbrev pub no_types : Data
-no_types = array no_items
+-- a type, a list of types, and a list of such lists
+abbrev pub type_data : GraphType → Data
+type_data t = string (type_text t)
+
+abbrev pub row_data : Types → Data
+row_data ts = array (array_of type_data ts)
+
+abbrev pub rows_data : List Types → Data
+rows_data rows = array (array_of row_data rows)
 
 -- ---- the members of a node: a shape for each list of keys
 
@@ -26,41 +38,79 @@ abbrev pub bare : List ℕ → ℕ → Members
 bare op parent = member (codes "op") (string op) (member (codes "parent") (natural parent) no_members)
 
 -- an op with a list of types
-abbrev pub typed : List ℕ → ℕ → Members
-typed op parent = member (codes "op") (string op) (member (codes "parent") (natural parent) (member (codes "types") no_types no_members))
+abbrev pub typed : List ℕ → Types → ℕ → Members
+typed op types parent =
+    member (codes "op") (string op) (member (codes "parent") (natural parent) (member (codes "types") (row_data types) no_members))
 
--- a function of this name
-abbrev pub function : List ℕ → ℕ → Members
-function name parent =
-    member (codes "ins") no_types (member (codes "name") (string name) (member (codes "op") (string (codes "FuncDefn")) (member (codes "outs") no_types (member (codes "parent") (natural parent) no_members))))
+-- an op with inputs and outputs
+abbrev pub two_rows : List ℕ → Types → Types → ℕ → Members
+two_rows op ins outs parent =
+    member (codes "ins") (row_data ins) (member (codes "op") (string op)
+    (member (codes "outs") (row_data outs) (member (codes "parent") (natural parent) no_members)))
 
--- So far these ops are served, and where one has a list of types it is empty.
-abbrev pub IsServed : Op → Type 0
-IsServed Module = ⊤
-IsServed (FuncDefn name ins outs) = (ins ≡ []) × (outs ≡ [])
-IsServed (Input types) = types ≡ []
-IsServed (Output types) = types ≡ []
-IsServed (Ext Alloc) = ⊤
-IsServed (Ext (Gate1 H)) = ⊤
-IsServed (Ext (Gate1 X)) = ⊤
-IsServed (Ext Free) = ⊤
-IsServed _ = ⊥
+-- a result with its tag
+abbrev pub tagged : List ℕ → List ℕ → ℕ → Members
+tagged op tag parent =
+    member (codes "op") (string op) (member (codes "parent") (natural parent) (member (codes "tag") (string tag) no_members))
 
--- every op of the graph is served
-abbrev pub AreServed : Graph → Type 0
-AreServed g = All (λ node. IsServed node.op) g.nodes
+abbrev pub function : List ℕ → Types → Types → ℕ → Members
+function name ins outs parent =
+    member (codes "ins") (row_data ins) (member (codes "name") (string name) (member (codes "op") (string (codes "FuncDefn"))
+    (member (codes "outs") (row_data outs) (member (codes "parent") (natural parent) no_members))))
 
--- A row for each op that is served: its name and its shape. Of other ops nothing is meant.
+abbrev pub constant : ℤ → ℕ → Members
+constant value parent =
+    member (codes "op") (string (codes "Const")) (member (codes "parent") (natural parent)
+    (member (codes "value") (number (of_integer value)) no_members))
+
+abbrev pub block : Types → List Types → Types → ℕ → Members
+block ins rows others parent =
+    member (codes "ins") (row_data ins) (member (codes "op") (string (codes "DataflowBlock"))
+    (member (codes "others") (row_data others) (member (codes "parent") (natural parent)
+    (member (codes "rows") (rows_data rows) no_members))))
+
+abbrev pub conditional : List Types → Types → Types → ℕ → Members
+conditional rows ins outs parent =
+    member (codes "ins") (row_data ins) (member (codes "op") (string (codes "Conditional"))
+    (member (codes "outs") (row_data outs) (member (codes "parent") (natural parent)
+    (member (codes "rows") (rows_data rows) no_members))))
+
+abbrev pub tail_loop : Types → Types → Types → ℕ → Members
+tail_loop again leave rest parent =
+    member (codes "again") (row_data again) (member (codes "leave") (row_data leave) (member (codes "op") (string (codes "TailLoop"))
+    (member (codes "parent") (natural parent) (member (codes "rest") (row_data rest) no_members))))
+
+abbrev pub variant : List Types → ℕ → ℕ → Members
+variant rows tag parent =
+    member (codes "op") (string (codes "Tag")) (member (codes "parent") (natural parent)
+    (member (codes "rows") (rows_data rows) (member (codes "tag") (natural tag) no_members)))
+
+-- A row for each op: its name and its shape. Most ops of extensions have no keys.
+abbrev pub extension_members : Extension → ℕ → Members
+extension_members (ResultInt tag) parent = tagged (ext_op_name ext.ResultInt) tag parent
+extension_members (ResultBool tag) parent = tagged (ext_op_name ext.ResultBool) tag parent
+extension_members (Unpack types) parent = typed (ext_op_name ext.Unpack) types parent
+extension_members op parent = bare (ext_op_name (ext_op_of op)) parent
+
 unfoldable pub node_members : Op → ℕ → Members
 node_members Module parent = bare (codes "Module") parent
-node_members (FuncDefn name ins outs) parent = function name parent
-node_members (Input types) parent = typed (codes "Input") parent
-node_members (Output types) parent = typed (codes "Output") parent
-node_members (Ext Alloc) parent = bare (codes "quantum.alloc") parent
-node_members (Ext (Gate1 H)) parent = bare (codes "quantum.h") parent
-node_members (Ext (Gate1 X)) parent = bare (codes "quantum.x") parent
-node_members (Ext Free) parent = bare (codes "quantum.free") parent
-node_members _ parent = no_members
+node_members (FuncDefn name ins outs) parent = function name ins outs parent
+node_members (Const value) parent = constant value parent
+node_members (Input types) parent = typed (codes "Input") types parent
+node_members (Output types) parent = typed (codes "Output") types parent
+node_members (Dfg ins outs) parent = two_rows (codes "DFG") ins outs parent
+node_members (Cfg ins outs) parent = two_rows (codes "CFG") ins outs parent
+node_members (DataflowBlock ins rows others) parent = block ins rows others parent
+node_members (ExitBlock types) parent = typed (codes "ExitBlock") types parent
+node_members (Conditional rows ins outs) parent = conditional rows ins outs parent
+node_members (Case ins outs) parent = two_rows (codes "Case") ins outs parent
+node_members (TailLoop again leave rest) parent = tail_loop again leave rest parent
+node_members (Tag rows tag) parent = variant rows tag parent
+node_members (Call ins outs) parent = two_rows (codes "Call") ins outs parent
+node_members (CallIndirect ins outs) parent = two_rows (codes "CallIndirect") ins outs parent
+node_members LoadConstant parent = bare (codes "LoadConstant") parent
+node_members (LoadFunction ins outs) parent = two_rows (codes "LoadFunction") ins outs parent
+node_members (Ext op) parent = extension_members op parent
 
 -- the data of a node
 abbrev pub node_data : Node → Data
@@ -78,7 +128,7 @@ link_data (Order before after) = pair (pair (natural before) null) (pair (natura
 -- the data of a graph
 unfoldable pub graph_data : Graph → Data
 graph_data g =
-    object (member (codes "edges") (array (array_of link_data g.links)) (member (codes "nodes") (array (array_of node_data g.nodes)) (member (codes "version") (string (codes "profile-1")) no_members)))
+    object (member (codes "edges") (array (array_of link_data g.links)) (member (codes "nodes") (array (array_of node_data g.nodes)) (member (codes "version") (string (codes "profile-2")) no_members)))
 
 -- the text of a graph
 unfoldable pub json : Graph → List ℕ

@@ -13,7 +13,7 @@ pub enum JsonFault {
     NotJson,
     /// The text isn't an object with a text `version`, a list `nodes` of at least one entry and a list `edges`.
     Top,
-    /// The version isn't `profile-1`.
+    /// The version is neither `profile-1` nor `profile-2`.
     Version,
     /// This entry of `nodes` is the first that isn't a node.
     Node(u64),
@@ -24,7 +24,7 @@ pub enum JsonFault {
 }
 
 /// Why an entry could not be read.
-#[derive(Debug, Drop)]
+#[derive(Drop)]
 pub enum Miss {
     /// It doesn't have its shape.
     Shape,

@@ -4,15 +4,15 @@ ghost use Rattle.std.specs.Prelude.{◌≡◌, ◌<◌, IfSome};
 ghost use Rattle.serde_json.specs.View.{view, items_view};
 ghost use Rattle.hg_graph.specs.View.{link_view};
 ghost use Rattle.hg_json.specs.Reading as spec;
-ghost use Rattle.hg_json.specs.Answers.{Finds};
-ghost use Rattle.hg_json.specs.Ends.{end_view, node_of_end};
+ghost use Rattle.hg_json.specs.code.Found.{Finds};
+ghost use Rattle.hg_json.specs.code.Ends.{end_view, node_of_end};
 ghost use Rattle.hg_json.specs.InHand.{IsWithin};
 
 use hg_graph::{Link, NodeId, Port};
 use serde_json::Value;
 
 // An end of a link.
-#[derive(Clone, Copy, Debug)]
+#[derive(Clone, Copy)]
 enum End {
     // A port.
     Port(Port),
@@ -23,7 +23,8 @@ enum End {
 // The two items of a list that has two.
 #[tactic(auto, using(crate::proofs::Pieces::two_none, crate::proofs::Pieces::two_some))]
 fn two(items: &[Value]) -> Option<(&Value, &Value)>
-    ensures { Finds (λ pair. (view pair.0.now, view pair.1.now)) result (spec.two (items_view items.now)) }
+    ensures { Finds (λ pair. (view pair.0.now, view pair.1.now)) result
+        (spec.two (items_view items.now)) }
 {
     if items.len() != 2 {
         return None;
@@ -33,7 +34,8 @@ fn two(items: &[Value]) -> Option<(&Value, &Value)>
 
 // The two items of an array that has two.
 fn pair_in(value: &Value) -> Option<(&Value, &Value)>
-    ensures { Finds (λ pair. (view pair.0.now, view pair.1.now)) result (spec.pair_in (view value.now)) }
+    ensures { Finds (λ pair. (view pair.0.now, view pair.1.now)) result
+        (spec.pair_in (view value.now)) }
 {
     two(value.as_array()?)
 }

@@ -2,7 +2,7 @@
 
 ghost use Rattle.serde_json.specs.View.{view, items_view};
 ghost use Rattle.hg_json.specs.Reading as spec;
-ghost use Rattle.hg_json.specs.Answers.{Finds};
+ghost use Rattle.hg_json.specs.code.Found.{Finds};
 
 use serde_json::Value;
 
@@ -22,16 +22,15 @@ pub fn natural_at(value: &Value, key: &str) -> Option<u64>
 
 /// The items of the list at a key.
 pub fn items_at<'v>(value: &'v Value, key: &str) -> Option<&'v Vec<Value>>
-    ensures { Finds (λ items. items_view items.now.items) result (spec.items_at key.now (view value.now)) }
+    ensures { Finds (λ items. items_view items.now.items) result
+        (spec.items_at key.now (view value.now)) }
 {
     value.get(key)?.as_array()
 }
 
-/// The list of types at a key. So far none is read that has a type.
-#[tactic(auto, unfolding(crate::specs::Reading::no_types_at), using(crate::proofs::Pieces::no_types_some, crate::proofs::Pieces::no_types_none))]
-pub fn no_types_at(value: &Value, key: &str) -> Option<()>
-    ensures { Finds (λ found. found) result (spec.no_types_at key.now (view value.now)) }
+/// The whole number with a sign at a key.
+pub fn integer_at(value: &Value, key: &str) -> Option<i64>
+    ensures { Finds (λ n. n) result (spec.integer_at key.now (view value.now)) }
 {
-    let types = items_at(value, key)?;
-    if types.is_empty() { Some(()) } else { None }
+    value.get(key)?.as_i64()
 }

@@ -13,6 +13,7 @@ use crate::fault::{JsonFault, Miss};
 use crate::links::link_of;
 use crate::nodes::node_of;
 use crate::parts::{items_at, text_at};
+use crate::profile::{Profile, profile_named};
 use hg_graph::{Graph, Link, Node, Nodes};
 use serde_json::Value;
 use std::alloc::{AllocError, Global};
@@ -21,11 +22,18 @@ use std::alloc::{AllocError, Global};
 pub const MAX_TEXT_BYTES: usize = 33_554_432;
 
 // The node of entry k, in a graph of `total` nodes.
-fn node_at(alloc: Global, total: u64, k: u64, value: &Value) -> Result<Node, JsonFault>
-    ensures answers { Answers node_view result (or_refuse (BadNode k) (spec.node_of total (seen value.now))) }
+fn node_at(
+    alloc: Global,
+    profile: Profile,
+    total: u64,
+    k: u64,
+    value: &Value,
+) -> Result<Node, JsonFault>
+    ensures answers { Answers node_view result
+        (or_refuse (BadNode k) (spec.node_of profile total (seen value.now))) }
     ensures parent_in { IfOk result (λ node. node.parent.0 < total) }
 {
-    match node_of(alloc, total, value) {
+    match node_of(alloc, profile, total, value) {
         Ok(node) => Ok(node),
         Err(Miss::Shape) => Err(JsonFault::Node(k)),
         Err(Miss::Memory) => Err(JsonFault::Memory),
@@ -34,7 +42,8 @@ fn node_at(alloc: Global, total: u64, k: u64, value: &Value) -> Result<Node, Jso
 
 // The link of entry k, in a graph of `total` nodes.
 fn link_at(total: u64, k: u64, value: &Value) -> Result<Link, JsonFault>
-    ensures answers { Answers link_view result (or_refuse (BadLink k) (spec.link_of total (seen value.now))) }
+    ensures answers { Answers link_view result
+        (or_refuse (BadLink k) (spec.link_of total (seen value.now))) }
     ensures nodes_in { IfOk result (λ link. IsWithin total (link_view link)) }
 {
     match link_of(total, value) {
@@ -52,16 +61,17 @@ fn count(entries: &[Value]) -> u64
 }
 
 // The nodes of the entries.
-fn nodes_of(alloc: Global, entries: &[Value]) -> Result<Nodes, JsonFault>
+fn nodes_of(alloc: Global, profile: Profile, entries: &[Value]) -> Result<Nodes, JsonFault>
     ensures answers { Answers (λ nodes. map node_view nodes) result
-        (spec.each (spec.node_of (spec.count (items_view entries.now))) BadNode 0 (items_view entries.now)) }
+        (spec.each (spec.node_of profile (spec.count (items_view entries.now))) BadNode 0
+        (items_view entries.now)) }
     ensures many { IfOk result (λ nodes. length nodes ≡ spec.count (items_view entries.now)) }
     ensures parents_in { IfOk result (λ nodes. All (λ node. node.parent.0 < length nodes) nodes) }
 {
     let total = count(entries);
     let mut nodes = Nodes::new(alloc);
     for k in 0..entries.len() {
-        let node = node_at(alloc, total, k as u64, &entries[k])?;
+        let node = node_at(alloc, profile, total, k as u64, &entries[k])?;
         nodes.push(node)?;
     }
     Ok(nodes)
@@ -70,7 +80,8 @@ fn nodes_of(alloc: Global, entries: &[Value]) -> Result<Nodes, JsonFault>
 // Adds a link of either kind. After an error the graph is as it was.
 fn add_link(graph: &mut Graph, link: Link) -> Result<(), AllocError>
     requires { IsWithin (length graph.old.nodes) (link_view link) }
-    ensures { OnOk result (graph.new ≡ record graph.old { links = graph.old.links ++ link_view link ∷ [] }) }
+    ensures { OnOk result (graph.new
+        ≡ record graph.old { links = graph.old.links ++ link_view link ∷ [] }) }
 {
     match link {
         Link::Ports(from, to) => graph.link(from, to),
@@ -92,31 +103,38 @@ fn linked(mut graph: Graph, edges: &[Value]) -> Result<Graph, JsonFault>
 
 // The graph of the entries, of which some are nodes.
 #[tactic(auto, unfolding(crate::specs::Reading::entries_of))]
-fn entries_of(alloc: Global, nodes: &[Value], edges: &[Value]) -> Result<Graph, JsonFault>
+fn entries_of(
+    alloc: Global,
+    profile: Profile,
+    nodes: &[Value],
+    edges: &[Value],
+) -> Result<Graph, JsonFault>
     requires { 0 < spec.count (items_view nodes.now) }
-    ensures { Answers (λ made. made) result (spec.entries_of (items_view nodes.now) (items_view edges.now)) }
+    ensures { Answers (λ made. made) result
+        (spec.entries_of profile (items_view nodes.now) (items_view edges.now)) }
 {
-    let nodes = nodes_of(alloc, nodes)?;
+    let nodes = nodes_of(alloc, profile, nodes)?;
     let graph = Graph::of_nodes(alloc, nodes)?;
     linked(graph, edges)
 }
 
-// The graph of a text of this version.
+// The graph of a text whose version has this name.
 #[tactic(auto, unfolding(crate::specs::Reading::versioned))]
 fn versioned(
     alloc: Global,
-    version: &str,
+    name: &str,
     nodes: &[Value],
     edges: &[Value],
 ) -> Result<Graph, JsonFault>
-    ensures { Answers (λ made. made) result (spec.versioned version.now (items_view nodes.now) (items_view edges.now)) }
+    ensures { Answers (λ made. made) result
+        (spec.versioned name.now (items_view nodes.now) (items_view edges.now)) }
 {
     if count(nodes) == 0 {
         return Err(JsonFault::Top);
     }
-    match version {
-        "profile-1" => entries_of(alloc, nodes, edges),
-        _ => Err(JsonFault::Version),
+    match profile_named(name) {
+        Some(profile) => entries_of(alloc, profile, nodes, edges),
+        None => Err(JsonFault::Version),
     }
 }
 

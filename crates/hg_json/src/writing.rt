@@ -6,74 +6,12 @@ ghost use Rattle.serde_json.specs.View.{view as seen};
 ghost use Rattle.serde_json.specs.Written.{has_float, compact_text, comma_if, items_text};
 ghost use Rattle.hg_graph.specs.Graph.{op_at, parent_at};
 ghost use Rattle.hg_graph.specs.View.{link_view};
-ghost use Rattle.hg_ops.specs.OpView.{op_view};
-ghost use Rattle.hg_json.specs.GraphText as spec;
-ghost use Rattle.hg_json.specs.GraphText.{IsServed, AreServed, array_of, node_data, node_members, link_data, json};
+ghost use Rattle.hg_json.specs.GraphText.{array_of, node_data, node_members, link_data, json};
 
-use hg_graph::{Graph, Link, NodeId, Port};
-use hg_ops::OpKind;
-use serde_json::{Value, json};
+use crate::values::{link_value, node_value};
+use hg_graph::{Graph, Link, NodeId};
+use serde_json::Value;
 use std::alloc::{AllocError, Global};
-
-// A node whose op has no further keys.
-fn bare(alloc: Global, op: &str, parent: u64) -> Result<Value, AllocError>
-    ensures { IfOk result (λ made. seen made ≡ object (spec.bare op.now parent)) }
-{
-    json!(in alloc; {"op": op, "parent": parent})
-}
-
-// A node whose op has a list of types.
-fn typed(alloc: Global, op: &str, parent: u64) -> Result<Value, AllocError>
-    ensures { IfOk result (λ made. seen made ≡ object (spec.typed op.now parent)) }
-{
-    json!(in alloc; {"op": op, "parent": parent, "types": []})
-}
-
-// A function.
-fn function(alloc: Global, name: &str, parent: u64) -> Result<Value, AllocError>
-    ensures { IfOk result (λ made. seen made ≡ object (spec.function name.now parent)) }
-{
-    json!(in alloc; {"ins": [], "name": name, "op": "FuncDefn", "outs": [], "parent": parent})
-}
-
-// The value of a node whose op is served.
-#[tactic(auto, unfolding(crate::specs::GraphText::node_members))]
-fn node_value(alloc: Global, op: &OpKind, parent: u64) -> Result<Value, AllocError>
-    requires { IsServed (op_view op.now) }
-    ensures { IfOk result (λ made. seen made ≡ object (node_members (op_view op.now) parent)) }
-{
-    match op {
-        OpKind::Module => bare(alloc, "Module", parent),
-        OpKind::FuncDefn { name, .. } => function(alloc, name.as_str(), parent),
-        OpKind::Input { .. } => typed(alloc, "Input", parent),
-        OpKind::Output { .. } => typed(alloc, "Output", parent),
-        OpKind::Alloc => bare(alloc, "quantum.alloc", parent),
-        OpKind::H => bare(alloc, "quantum.h", parent),
-        OpKind::X => bare(alloc, "quantum.x", parent),
-        OpKind::Free => bare(alloc, "quantum.free", parent),
-        _ => unreachable!(),
-    }
-}
-
-// The value of a link.
-fn link_value(alloc: Global, link: Link) -> Result<Value, AllocError>
-    ensures { IfOk result (λ made. seen made ≡ link_data (link_view link)) }
-{
-    match link {
-        Link::Ports(from, to) => {
-            let Port {
-                node: NodeId(n),
-                index: p,
-            } = from;
-            let Port {
-                node: NodeId(m),
-                index: q,
-            } = to;
-            json!(in alloc; [[n, p], [m, q]])
-        }
-        Link::Order(NodeId(n), NodeId(m)) => json!(in alloc; [[n, null], [m, null]]),
-    }
-}
 
 // Writes a value at the end, after a comma where something stands before.
 fn push_value(
@@ -83,7 +21,8 @@ fn push_value(
     value: &Value,
 ) -> Result<(), AllocError>
     requires { has_float (seen value.now) ≡ false }
-    ensures { OnOk result (out.new.items ≡ out.old.items ++ (comma_if later ++ compact_text (seen value.now))) }
+    ensures { OnOk result (out.new.items
+        ≡ out.old.items ++ (comma_if later ++ compact_text (seen value.now))) }
 {
     if later {
         out.push(b',')?;
@@ -94,10 +33,10 @@ fn push_value(
 
 // Writes a node.
 fn push_node(alloc: Global, out: &mut Vec<u8>, graph: &Graph, number: u64) -> Result<(), AllocError>
-    requires number_in { number < length graph.now.nodes }
-    requires served { AreServed graph.now }
+    requires { number < length graph.now.nodes }
     ensures { OnOk result (out.new.items ≡ out.old.items
-        ++ (comma_if (nat_lt 0 number) ++ compact_text (object (node_members (op_at graph.now number) (parent_at graph.now number))))) }
+        ++ (comma_if (nat_lt 0 number) ++ compact_text (object
+        (node_members (op_at graph.now number) (parent_at graph.now number))))) }
 {
     let node = NodeId(number);
     let value = node_value(alloc, graph.op(node), graph.parent(node).0)?;
@@ -106,7 +45,8 @@ fn push_node(alloc: Global, out: &mut Vec<u8>, graph: &Graph, number: u64) -> Re
 
 // Writes a link.
 fn push_link(alloc: Global, out: &mut Vec<u8>, later: bool, link: Link) -> Result<(), AllocError>
-    ensures { OnOk result (out.new.items ≡ out.old.items ++ (comma_if later ++ compact_text (link_data (link_view link)))) }
+    ensures { OnOk result (out.new.items
+        ≡ out.old.items ++ (comma_if later ++ compact_text (link_data (link_view link)))) }
 {
     let value = link_value(alloc, link)?;
     push_value(alloc, out, later, &value)
@@ -114,8 +54,8 @@ fn push_link(alloc: Global, out: &mut Vec<u8>, later: bool, link: Link) -> Resul
 
 // Writes the nodes and the closing bracket.
 fn push_nodes(alloc: Global, out: &mut Vec<u8>, graph: &Graph) -> Result<(), AllocError>
-    requires { AreServed graph.now }
-    ensures { OnOk result (out.new.items ≡ out.old.items ++ items_text false (array_of node_data graph.now.nodes)) }
+    ensures { OnOk result (out.new.items
+        ≡ out.old.items ++ items_text false (array_of node_data graph.now.nodes)) }
 {
     for number in 0..graph.node_count() {
         push_node(alloc, out, graph, number)?;
@@ -125,7 +65,8 @@ fn push_nodes(alloc: Global, out: &mut Vec<u8>, graph: &Graph) -> Result<(), All
 
 // Writes the links and the closing bracket.
 fn push_links(alloc: Global, out: &mut Vec<u8>, graph: &Graph) -> Result<(), AllocError>
-    ensures { OnOk result (out.new.items ≡ out.old.items ++ items_text false (array_of link_data graph.now.links)) }
+    ensures { OnOk result (out.new.items
+        ≡ out.old.items ++ items_text false (array_of link_data graph.now.links)) }
 {
     for k in 0..graph.link_count() {
         let link = graph.link_at(k).unwrap();
@@ -134,10 +75,8 @@ fn push_links(alloc: Global, out: &mut Vec<u8>, graph: &Graph) -> Result<(), All
     Ok(out.push(b']')?)
 }
 
-/// The text of a graph, without a line end. So far graphs are served whose ops are `Module`, `FuncDefn`, `Input`,
-/// `Output`, `quantum.alloc`, `quantum.h`, `quantum.x` and `quantum.free` without types.
+/// The text of a graph, without a line end.
 pub fn write(alloc: Global, graph: &Graph) -> Result<Vec<u8>, AllocError>
-    requires { AreServed graph.now }
     ensures { IfOk result (λ text. text.items ≡ json graph.now) }
 {
     let mut out = Vec::new(alloc);
@@ -145,6 +84,6 @@ pub fn write(alloc: Global, graph: &Graph) -> Result<Vec<u8>, AllocError>
     push_links(alloc, &mut out, graph)?;
     out.extend_from_slice(b",\"nodes\":[")?;
     push_nodes(alloc, &mut out, graph)?;
-    out.extend_from_slice(b",\"version\":\"profile-1\"}")?;
+    out.extend_from_slice(b",\"version\":\"profile-2\"}")?;
     Ok(out)
 }

@@ -3,13 +3,14 @@ use Rattle.std.proofs.Common.{◌≡◌, ℕ, ◌+◌, ◌<◌, ◌≤◌, List,
 use Rattle.std.specs.Prelude.{slice_get}
 use Rattle.gp_base.specs.Run.{Run, Out, Returned, Stopped, Stuck, ◌>>=◌, ret, stop}
 use Rattle.gp_base.specs.World.{World, take_turn}
-use Rattle.hg_ops.specs.GraphType.{sum_type}
-use Rattle.hg_ops.specs.Op.{Op, Types, FuncDefn, Const, Dfg, Cfg, Conditional, TailLoop, Call, LoadConstant, ins_of}
+use Rattle.hg_ops.specs.GraphType.{sum_type, function_type}
+use Rattle.hg_ops.specs.Op.{Op, Types, FuncDefn, Const, Dfg, Cfg, Conditional, TailLoop, Call, CallIndirect, LoadConstant, LoadFunction, ins_of}
 use Rattle.hg_graph.specs.Graph.{Graph, Port, op_at, feeder, static_input}
-use Rattle.hg_graph.specs.Run.{Open, perform, State, no_note, on_world, Enter, at_node, at_port, with_variant, constant, after_turn, fire_op, world_out}
-use Rattle.hg_graph.specs.Value.{Value, Int, Qubit, Variant, values, Functions, HaveTypes, functions}
+use Rattle.hg_graph.specs.Run.{Open, perform, State, no_note, on_world, Enter, at_node, at_port, with_variant, with_function, name_of_function, constant, after_turn, fire_op, world_out}
+use Rattle.hg_graph.specs.Value.{Value, Int, Qubit, Variant, Function, callee, values, Functions, HasType, HaveTypes, functions}
 use Rattle.hg_laws.proofs.Runs.{Gives, Giving, no_types, Shows, bind_shows, on_world_shows}
 use Rattle.hg_laws.proofs.Values.{have-append, variant_row}
+use Rattle.hg_laws.proofs.Named.{names_function}
 use Rattle.hg_laws.proofs.Known.{Known}
 use Rattle.hg_laws.proofs.Typed.{TypedEnter, entry_ins, option_same}
 
@@ -78,7 +79,19 @@ pub variant_alike : (F : Functions) (vs : List Value) (rows : List Types) (ts : 
 variant_alike F [] rows ts go go' h f = absurd h
 variant_alike F (Int n ∷ vs) rows ts go go' h f = absurd h.0
 variant_alike F (Qubit n ∷ vs) rows ts go go' h f = absurd h.0
+variant_alike F (Function n ∷ vs) rows ts go go' h f = absurd h.0
 variant_alike F (Variant k us ∷ vs) rows ts go go' h f = let r = variant_row F rows k us h.0 in f k r.0 (values us ++ vs) r.1 (have-append F (values us) vs r.0 ts r.2 h.1)
+
+function_alike : (F : Functions) (vs : List Value) (i o ts : Types) (go go' : List ℕ → List Value → Doing) → HaveTypes F vs (function_type i o ∷ ts) → ((name : List ℕ) (us : List Value) → HasType F (Function name) (function_type i o) → HaveTypes F us ts → Alike (go name us) (go' name us)) → Alike (with_function vs go) (with_function vs go')
+function_alike F [] i o ts go go' h f = absurd h
+function_alike F (Int n ∷ vs) i o ts go go' h f = absurd h.0
+function_alike F (Qubit n ∷ vs) i o ts go go' h f = absurd h.0
+function_alike F (Variant k us ∷ vs) i o ts go go' h f = absurd h.0
+function_alike F (Function name ∷ vs) i o ts go go' h f = f name vs h.0 h.1
+
+name_alike : (kind : Op) → Alike (name_of_function kind) (name_of_function kind)
+name_alike (FuncDefn name i o) = ret_alike (Function name ∷ [])
+name_alike _ = stuck_alike
 
 -- under whatever regions and picks
 pub record AlikeEnter (g : Graph) (depth : ℕ) (E : Enter (Unit {0})) : Type 0 where
@@ -102,5 +115,12 @@ module _ (g : Graph) (V : Known g) (inside again : Enter (Unit {0})) (TI : Typed
       at_port_alike (feeder g.links (static_input g n)) _ _ (λ f q.
       let same : c.0 ≡ f = option_same (feeder g.links (static_input g n)) c.0 f c.2 q in
       again_alike outer outer' f.node vs (FuncDefn c.1 i o) (ap (λ x. op_at g x.node) (sym same) ∙ c.4) (subst (λ x. x.node < length g.nodes) same c.3) h)
+  fire_alike outer outer' n vs (CallIndirect i o) e l d h =
+      function_alike (functions g) vs i o i _ _ h (λ name us t ts.
+      let c = names_function g name i o t in
+      at_node_alike (callee g i o name) _ _ (λ f q.
+      let same : c.place ≡ f = option_same (callee g i o name) c.place f c.found q in
+      again_alike outer outer' f us (FuncDefn c.name i o) (ap (op_at g) (sym same) ∙ c.is_function) (subst (λ x. x < length g.nodes) same c.is_node) ts))
+  fire_alike outer outer' n vs (LoadFunction i o) e l d h = at_port_alike (feeder g.links (static_input g n)) _ _ (λ f q. name_alike (op_at g f.node))
   fire_alike outer outer' n vs LoadConstant e l d h = at_port_alike (feeder g.links (static_input g n)) _ _ (λ c q. const_alike (op_at g c.node))
   fire_alike outer outer' n vs kind e l d h = world_alike (perform kind vs)

@@ -11,7 +11,7 @@ use Rattle.hg_graph.specs.Moments.{IsProper}
 use Rattle.hg_graph.specs.Ordered.{IsOrdered}
 use Rattle.hg_graph.specs.Run.{Open, outs_at, no_note, Enter, at_node, with_variant, after_turn, fire, firings, region, after_round, jump, enter_op, level, resume, runs, run_function, graph_run}
 use Rattle.hg_graph.specs.Valid.{is_block, block_ins}
-use Rattle.hg_graph.specs.Value.{Value, Int, Qubit, Variant, values, HaveTypes, functions}
+use Rattle.hg_graph.specs.Value.{Value, Int, Qubit, Variant, Function, values, HaveTypes, functions}
 use Rattle.hg_laws.proofs.Values.{or_false, have-append, variant_row}
 use Rattle.hg_laws.proofs.Flow.{sound_start}
 use Rattle.hg_laws.proofs.Children.{get_in, child_is, kid_is}
@@ -110,6 +110,7 @@ module _ (g : Graph) (V : Known g) (inside again : Enter (Unit {0})) (TI : Typed
     case_pure n rows i o [] e l d ef h = absurd h
     case_pure n rows i o (Int x ∷ vs) e l d ef h = absurd h.0
     case_pure n rows i o (Qubit x ∷ vs) e l d ef h = absurd h.0
+    case_pure n rows i o (Function x ∷ vs) e l d ef h = absurd h.0
     case_pure n rows i o (Variant k us ∷ vs) e l d ef h =
         let r = variant_row (functions g) rows k us h.0 in
         let C = V.cases n k rows r.0 i o l e r.1 in

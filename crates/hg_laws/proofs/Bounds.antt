@@ -4,13 +4,13 @@ use Rattle.std.specs.Prelude.{slice_get}
 use Rattle.std.proofs.lemmas.Bool.{ltb-true}
 use Rattle.std.proofs.lemmas.Option.{slice_get_past}
 use Rattle.gp_base.specs.Clean.{world_after}
-use Rattle.gp_base.specs.Run.{Run, Out, Returned, Stopped, Stuck, go_on, ◌>>=◌, ret, stop}
+use Rattle.gp_base.specs.Run.{Run, Out, Returned, Stopped, Stuck, go_on, ◌>>=◌, ret, stop, or_stuck}
 use Rattle.gp_base.specs.World.{World, turn_of}
-use Rattle.hg_ops.specs.Op.{Op, Module, FuncDefn, Const, Dfg, Cfg, DataflowBlock, ExitBlock, Conditional, Case, TailLoop, Call, LoadConstant}
+use Rattle.hg_ops.specs.Op.{Op, Module, FuncDefn, Const, Dfg, Cfg, DataflowBlock, ExitBlock, Conditional, Case, TailLoop, Call, CallIndirect, LoadConstant, LoadFunction}
 use Rattle.gp_base.specs.Membership.{In}
 use Rattle.hg_graph.specs.Graph.{Graph, Port, op_of, op_at, children, firing_children, feeder, taker, static_input}
-use Rattle.hg_graph.specs.Run.{Fired, Open, outs_at, inputs, ready, perform, State, Note, with_world, on_world, choose, pick_from, or_stuck, at_moment, Enter, at_node, at_port, with_variant, constant, after_turn, fire_op, fire, firings, region, after_round, jump, enter_op, level, resume, runs}
-use Rattle.hg_graph.specs.Value.{Value, Variant}
+use Rattle.hg_graph.specs.Run.{Fired, Open, outs_at, inputs, ready, perform, State, Note, with_world, on_world, choose, pick_from, at_moment, Enter, at_node, at_port, with_variant, with_function, name_of_function, constant, after_turn, fire_op, fire, firings, region, after_round, jump, enter_op, level, resume, runs}
+use Rattle.hg_graph.specs.Value.{Value, Variant, Function, callee}
 use Rattle.hg_laws.proofs.Runs.{Giving, Gives, then_gives, no_types}
 use Rattle.gp_base.proofs.Steps.{SameTurns, turns_step}
 use Rattle.hg_laws.proofs.Ops.{perform_relates}
@@ -89,6 +89,14 @@ variant_equal : {N : Type 0} (b : ℕ) (vs : List Value) (k l : ℕ → List Val
 variant_equal b (Variant n us ∷ vs) k l h = h n _
 variant_equal b _ k l h = still b (stop Stuck) (λ s lt. tt)
 
+function_equal : {N : Type 0} (b : ℕ) (vs : List Value) (k l : List ℕ → List Value → Run (State N) (List Value)) → ((name : List ℕ) (us : List Value) → Equal b (k name us) (l name us)) → Equal b (with_function vs k) (with_function vs l)
+function_equal b (Function name ∷ vs) k l h = h name vs
+function_equal b _ k l h = still b (stop Stuck) (λ s lt. tt)
+
+name_below : {N : Type 0} (b : ℕ) (kind : Op) (s : State N) → s.world.turns < b → Below b (name_of_function kind s)
+name_below b (FuncDefn name i o) s h = h
+name_below b _ s h = tt
+
 or_stuck_below : {N : Type 0} (b : ℕ) (o : Option (List Value)) (s : State N) → s.world.turns < b → Below b (or_stuck o s)
 or_stuck_below b None s h = tt
 or_stuck_below b (Some vs) s h = h
@@ -108,6 +116,8 @@ module _ {N : Type 0} (note : Note N) (g : Graph) (V : Known g) (b D : ℕ) (ins
   fire_equal (TailLoop a l r) outer n vs d = SI.equal outer n vs d
   fire_equal (Cfg i o) outer n vs d = SI.equal outer n vs d
   fire_equal (Call i o) outer n vs d = at_port_equal (suc b) (feeder g.links (static_input g n)) _ _ (λ f. again_equal outer f vs)
+  fire_equal (CallIndirect i o) outer n vs d = function_equal (suc b) vs _ _ (λ name us. at_node_equal (suc b) (callee g i o name) _ _ (λ f _. again_equal outer f us))
+  fire_equal (LoadFunction i o) outer n vs d = at_port_equal (suc b) (feeder g.links (static_input g n)) _ _ (λ f. still (suc b) (name_of_function (op_at g f)) (name_below (suc b) (op_at g f)))
   fire_equal LoadConstant outer n vs d = at_port_equal (suc b) (feeder g.links (static_input g n)) _ _ (λ c. still (suc b) (constant (op_at g c)) (const_below (suc b) (op_at g c)))
   fire_equal kind outer n vs d = still (suc b) (on_world (perform kind vs)) (perform_below (suc b) kind vs)
 

@@ -36,7 +36,7 @@ order a b = Rattle.std.proofs.Common.⊎_elim (λ l. inl l) (λ h. inr (Rattle.s
     same : b ≤ a → a ≤ b → a ≡ b
     same h k = omega arith
 
-same_rule : (rule other : Rule) → number_of rule ≡ number_of other → rule ≡ other
+pub same_rule : (rule other : Rule) → number_of rule ≡ number_of other → rule ≡ other
 same_rule rule other e = sym (number-rule rule) ∙ (ap rule_at e ∙ number-rule other)
 
 least_rule : (g : Graph) (rule other : Rule) (n m : ℕ) → IsBroken g rule n → IsBroken g other m → rule ≡ other

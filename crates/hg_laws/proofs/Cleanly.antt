@@ -2,12 +2,12 @@
 use Rattle.std.proofs.Common.{◌≡◌, ℕ, zero, suc, Bool, true, false, cond, ltb, List, [], ◌∷◌, ◌++◌, length, Option, Some, None, refl, sym, ap, ◌∙◌, append-nil}
 use Rattle.std.specs.Prelude.{slice_get}
 use Rattle.gp_base.specs.Clean.{IsCleanBetween, world_after}
-use Rattle.gp_base.specs.Run.{Run, Out, Returned, Stopped, Stuck, go_on, ◌>>=◌, ret, stop}
+use Rattle.gp_base.specs.Run.{Run, Out, Returned, Stopped, Stuck, go_on, ◌>>=◌, ret, stop, or_stuck}
 use Rattle.gp_base.specs.World.{World, take_turn, turn_of}
-use Rattle.hg_ops.specs.Op.{Op, FuncDefn, Const, Dfg, Cfg, DataflowBlock, ExitBlock, Conditional, Case, TailLoop, Call, LoadConstant}
+use Rattle.hg_ops.specs.Op.{Op, FuncDefn, Const, Dfg, Cfg, DataflowBlock, ExitBlock, Conditional, Case, TailLoop, Call, CallIndirect, LoadConstant, LoadFunction}
 use Rattle.hg_graph.specs.Graph.{Graph, Port, op_at, children, firing_children, feeder, taker, static_input}
-use Rattle.hg_graph.specs.Run.{Fired, Open, outs_at, inputs, ready, perform, State, Note, with_world, on_world, choose, pick_from, or_stuck, at_moment, Enter, at_node, at_port, with_variant, constant, after_turn, fire_op, fire, firings, region, after_round, jump, enter_op, level, resume, runs, no_note, world_out, run_function, graph_run}
-use Rattle.hg_graph.specs.Value.{Value, Variant, values}
+use Rattle.hg_graph.specs.Run.{Fired, Open, outs_at, inputs, ready, perform, State, Note, with_world, on_world, choose, pick_from, at_moment, Enter, at_node, at_port, with_variant, with_function, name_of_function, constant, after_turn, fire_op, fire, firings, region, after_round, jump, enter_op, level, resume, runs, no_note, world_out, run_function, graph_run}
+use Rattle.hg_graph.specs.Value.{Value, Variant, Function, callee, values}
 use Rattle.gp_base.proofs.Steps.{IsStep, Relates, clean_step}
 use Rattle.hg_laws.proofs.Ops.{perform_relates}
 
@@ -70,6 +70,14 @@ module _ (R : World → World → Type 0) (S : IsStep R) (turns : (n : ℕ) (w :
     variant_reaches (Variant n us ∷ vs) k h = h n (values us ++ vs)
     variant_reaches _ k h = still (stop Stuck) (λ s. refl)
 
+    function_reaches : (vs : List Value) (k : List ℕ → List Value → Run (State N) (List Value)) → ((name : List ℕ) (us : List Value) → Reaches (k name us)) → Reaches (with_function vs k)
+    function_reaches (Function name ∷ vs) k h = h name vs
+    function_reaches _ k h = still (stop Stuck) (λ s. refl)
+
+    name_reaches : (kind : Op) → Reaches {N = N} (name_of_function kind)
+    name_reaches (FuncDefn name i o) = still (name_of_function (FuncDefn name i o)) (λ s. refl)
+    name_reaches _ = still (stop Stuck) (λ s. refl)
+
     const_reaches : (kind : Op) → Reaches {N = N} (constant kind)
     const_reaches (Const n) = still (constant (Const n)) (λ s. refl)
     const_reaches _ = still (stop Stuck) (λ s. refl)
@@ -92,6 +100,8 @@ module _ (R : World → World → Type 0) (S : IsStep R) (turns : (n : ℕ) (w :
       fire_reaches (TailLoop a l r) outer n vs = CI.reaches outer n vs
       fire_reaches (Cfg i o) outer n vs = CI.reaches outer n vs
       fire_reaches (Call i o) outer n vs = at_port_reaches (feeder g.links (static_input g n)) _ (λ f. turn_reaches outer f vs)
+      fire_reaches (CallIndirect i o) outer n vs = function_reaches vs _ (λ name us. at_node_reaches (callee g i o name) _ (λ f. turn_reaches outer f us))
+      fire_reaches (LoadFunction i o) outer n vs = at_port_reaches (feeder g.links (static_input g n)) _ (λ f. name_reaches (op_at g f))
       fire_reaches LoadConstant outer n vs = at_port_reaches (feeder g.links (static_input g n)) _ (λ c. const_reaches (op_at g c))
       fire_reaches kind outer n vs = on_world_reaches (perform kind vs) (perform_relates R S kind vs)
 

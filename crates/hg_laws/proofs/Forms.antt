@@ -7,12 +7,13 @@ use Rattle.hg_ops.specs.GraphType.{bool_type, tuple_type}
 use Rattle.hg_ops.specs.Op as op
 use Rattle.hg_ops.specs.Op.{Types, Extension, extension_ins, is_extension_effect}
 use Rattle.hg_graph.specs.Run.{calculated, compared, compared_bools, if_truth, perform_extension}
-use Rattle.hg_graph.specs.Value.{Value, Int, Qubit, Variant, Values, no_values, value, values, truth, truth_of, Functions, HasType, HaveTypes}
+use Rattle.hg_graph.specs.Value.{Value, Int, Qubit, Variant, Function, Values, no_values, value, values, truth, truth_of, Functions, HasType, HaveTypes}
 use Rattle.hg_laws.proofs.Values.{no_row}
 
 module _ (F : Functions) where
   pub qubit_form : (vs : List Value) → HaveTypes F vs (type.Qubit ∷ []) → (p : ℕ) × (vs ≡ Qubit p ∷ [])
   qubit_form [] h = absurd h
+  qubit_form (Function n ∷ vs) h = absurd h.0
   qubit_form (Int n ∷ vs) h = absurd h.0
   qubit_form (Variant k us ∷ vs) h = absurd h.0
   qubit_form (Qubit p ∷ []) h = (p, refl)
@@ -20,18 +21,21 @@ module _ (F : Functions) where
 
   pub two_qubits_form : (vs : List Value) → HaveTypes F vs (type.Qubit ∷ type.Qubit ∷ []) → (a b : ℕ) × (vs ≡ Qubit a ∷ Qubit b ∷ [])
   two_qubits_form [] h = absurd h
+  two_qubits_form (Function n ∷ vs) h = absurd h.0
   two_qubits_form (Int n ∷ vs) h = absurd h.0
   two_qubits_form (Variant k us ∷ vs) h = absurd h.0
   two_qubits_form (Qubit a ∷ vs) h = let f = qubit_form vs h.1 in (a, f.0, ap (λ l. Qubit a ∷ l) f.1)
 
   pub three_qubits_form : (vs : List Value) → HaveTypes F vs (type.Qubit ∷ type.Qubit ∷ type.Qubit ∷ []) → (a b c : ℕ) × (vs ≡ Qubit a ∷ Qubit b ∷ Qubit c ∷ [])
   three_qubits_form [] h = absurd h
+  three_qubits_form (Function n ∷ vs) h = absurd h.0
   three_qubits_form (Int n ∷ vs) h = absurd h.0
   three_qubits_form (Variant k us ∷ vs) h = absurd h.0
   three_qubits_form (Qubit a ∷ vs) h = let f = two_qubits_form vs h.1 in (a, f.0, f.1, ap (λ l. Qubit a ∷ l) f.2)
 
   pub int_form : (vs : List Value) → HaveTypes F vs (type.Int ∷ []) → (a : ℤ) × (vs ≡ Int a ∷ [])
   int_form [] h = absurd h
+  int_form (Function n ∷ vs) h = absurd h.0
   int_form (Qubit n ∷ vs) h = absurd h.0
   int_form (Variant k us ∷ vs) h = absurd h.0
   int_form (Int a ∷ []) h = (a, refl)
@@ -39,12 +43,14 @@ module _ (F : Functions) where
 
   pub two_ints_form : (vs : List Value) → HaveTypes F vs (type.Int ∷ type.Int ∷ []) → (a b : ℤ) × (vs ≡ Int a ∷ Int b ∷ [])
   two_ints_form [] h = absurd h
+  two_ints_form (Function n ∷ vs) h = absurd h.0
   two_ints_form (Qubit n ∷ vs) h = absurd h.0
   two_ints_form (Variant k us ∷ vs) h = absurd h.0
   two_ints_form (Int a ∷ vs) h = let f = int_form vs h.1 in (a, f.0, ap (λ l. Int a ∷ l) f.1)
 
   pub angle_form : (vs : List Value) → HaveTypes F vs (type.Qubit ∷ type.Int ∷ []) → (q : ℕ) × (a : ℤ) × (vs ≡ Qubit q ∷ Int a ∷ [])
   angle_form [] h = absurd h
+  angle_form (Function n ∷ vs) h = absurd h.0
   angle_form (Int n ∷ vs) h = absurd h.0
   angle_form (Variant k us ∷ vs) h = absurd h.0
   angle_form (Qubit q ∷ vs) h = let f = int_form vs h.1 in (q, f.0, ap (λ l. Qubit q ∷ l) f.1)
@@ -52,6 +58,7 @@ module _ (F : Functions) where
   truth_form : (v : Value) → HasType F v bool_type → (b : Bool) × (v ≡ truth b)
   truth_form (Int n) h = absurd h
   truth_form (Qubit q) h = absurd h
+  truth_form (Function n) h = absurd h
   truth_form (Variant zero no_values) h = (false, refl)
   truth_form (Variant zero (value v vs)) h = absurd h
   truth_form (Variant (suc zero) no_values) h = (true, refl)
@@ -69,6 +76,7 @@ module _ (F : Functions) where
 
   pub tuple_form : (ts : Types) (vs : List Value) → HaveTypes F vs (tuple_type ts ∷ []) → (us : Values) × (vs ≡ Variant 0 us ∷ [])
   tuple_form ts [] h = absurd h
+  tuple_form ts (Function n ∷ vs) h = absurd h.0
   tuple_form ts (Int n ∷ vs) h = absurd h.0
   tuple_form ts (Qubit n ∷ vs) h = absurd h.0
   tuple_form ts (Variant zero us ∷ []) h = (us, refl)

@@ -1,18 +1,19 @@
 -- What is used of a valid graph.
 use Rattle.std.proofs.Common.{◌≡◌, ◌≢◌, ◌⊎◌, inl, inr, ℕ, zero, suc, ◌<◌, Bool, true, false, cond, ltb, ℤ, List, [], ◌∷◌, ◌++◌, length, map, Option, Some, refl, sym, ap, ap₂, ◌∙◌, subst, arith}
 use Rattle.std.specs.Prelude.{slice_get}
-use Rattle.std.proofs.lemmas.Bool.{cases_lt, lt-ltb}
-use Rattle.std.proofs.lemmas.Option.{slice_get_past}
+use Rattle.std.proofs.lemmas.Bool.{lt-ltb}
 use Rattle.hg_ops.specs.GraphType.{GraphType, is_linear}
-use Rattle.hg_ops.specs.Op.{Op, Types, Module, FuncDefn, Const, Input, Output, Dfg, Cfg, DataflowBlock, ExitBlock, Conditional, Case, TailLoop, Tag, Call, LoadConstant, Ext, PortKind, ValuePort, ControlPort, ConstantPort, ins_of, outs_of, other_inputs, other_outputs, input_ports, output_ports, is_dataflow_container, is_operation, inner_ins, inner_outs}
+use Rattle.hg_ops.specs.Op.{Op, Types, Module, FuncDefn, Const, Input, Output, Dfg, Cfg, DataflowBlock, ExitBlock, Conditional, Case, TailLoop, Tag, Call, CallIndirect, LoadConstant, LoadFunction, Ext, PortKind, ValuePort, ControlPort, ConstantPort, ins_of, outs_of, other_inputs, other_outputs, input_ports, output_ports, is_dataflow_container, is_operation, inner_ins, inner_outs}
 use Rattle.gp_base.specs.Membership.{In}
-use Rattle.hg_graph.specs.Graph.{Graph, Port, Link, Ports, Order, is_port, op_of, op_at, parent_at, children, feeder, taker, static_input}
+use Rattle.hg_graph.specs.Graph.{Graph, Port, Link, Ports, Order, is_port, op_at, parent_at, children, feeder, taker, static_input}
 use Rattle.hg_graph.specs.Valid
-use Rattle.hg_graph.specs.Valid.{IsValid, Keeps, KeepsBlocks, KeepsCases, KeepsSuccessors, KeepsStatic, KeepsCallee, KeepsTags, HasPlace, HasBoundary, HasBlocks, HasCase, HasCases, HasStatic, HasConstant, HasCallee, HasSuccessor, JoinsPorts, JoinsNodes, LinksJoin, LinksStayInside, Edge, Path, edge, joined, along_value, along_order, may_stand_in, stands_in_region, is_boundary, is_output, is_input, is_exit, is_block, is_local, block_ins}
+use Rattle.hg_graph.specs.Valid.{IsValid, Keeps, KeepsBlocks, KeepsCases, KeepsSuccessors, KeepsStatic, KeepsCallee, KeepsName, KeepsTags, HasPlace, HasBoundary, HasBlocks, HasCase, HasCases, HasStatic, HasConstant, HasCallee, HasSuccessor, JoinsPorts, JoinsNodes, LinksJoin, LinksStayInside, Edge, Path, edge, joined, along_value, along_order, may_stand_in, stands_in_region, is_boundary, is_output, is_input, is_exit, is_block, is_local, block_ins}
 use Rattle.hg_laws.proofs.Lists.{get_within}
 use Rattle.hg_laws.proofs.Looks.{not_both}
 use Rattle.hg_laws.proofs.Wires.{Wire, Pair, value_links, order_links, wires_into, wires_from, node_after, at_index, is_port_true, node_of, into_same, from_same, after_same, wire_link, pair_link}
+use Rattle.hg_graph.specs.Value.{functions}
 use Rattle.hg_laws.proofs.Children.{child_is, is_child}
+use Rattle.hg_laws.proofs.Named.{functions_new, within}
 
 -- what may stand in a region beside `Input` and `Output`
 abbrev pub is_inner : Op → Bool
@@ -23,7 +24,9 @@ is_inner (Conditional rows ins outs) = true
 is_inner (TailLoop again leave rest) = true
 is_inner (Tag rows tag) = true
 is_inner (Call ins outs) = true
+is_inner (CallIndirect ins outs) = true
 is_inner LoadConstant = true
+is_inner (LoadFunction ins outs) = true
 is_inner (Ext e) = true
 is_inner _ = false
 
@@ -80,6 +83,7 @@ pub record Known (g : Graph) : Type 0 where
   pub tags : (n k : ℕ) (rows : List Types) → n < length g.nodes → op_at g n ≡ Tag rows k → (r : Types) × (slice_get rows k ≡ Some r)
   pub constants : (n : ℕ) → n < length g.nodes → op_at g n ≡ LoadConstant → (c : Port) × (v : ℤ) × (feeder g.links (static_input g n) ≡ Some c) × (op_at g c.node ≡ Const v)
   pub calls : (n : ℕ) (ins outs : Types) → n < length g.nodes → op_at g n ≡ Call ins outs → (f : Port) × (name : List ℕ) × (feeder g.links (static_input g n) ≡ Some f) × (f.node < length g.nodes) × (op_at g f.node ≡ FuncDefn name ins outs)
+  pub loads : (n : ℕ) (ins outs : Types) → n < length g.nodes → op_at g n ≡ LoadFunction ins outs → (f : Port) × (name : List ℕ) × (feeder g.links (static_input g n) ≡ Some f) × (op_at g f.node ≡ FuncDefn name ins outs) × (functions g name ≡ Some (record { ins = ins; outs = outs }))
   pub first_blocks : (n : ℕ) (ins outs : Types) → n < length g.nodes → op_at g n ≡ Cfg ins outs → HasBlocks g n ins outs
   pub controls : (n k : ℕ) (ins : Types) (rows : List Types) (others r : Types) → n < length g.nodes → op_at g n ≡ DataflowBlock ins rows others → slice_get rows k ≡ Some r → Leads g n k r others
   pub exits : (n : ℕ) (t : Types) → n < length g.nodes → op_at g n ≡ ExitBlock t → t ≡ outs_of (op_at g (parent_at g n))
@@ -121,6 +125,8 @@ no_value_behind t (ExitBlock ts) zero e = cc
 no_value_behind t (ExitBlock ts) (suc j) e = cc
 no_value_behind t (Call i o) zero e = cc
 no_value_behind t (Call i o) (suc j) e = cc
+no_value_behind t (LoadFunction i o) zero e = cc
+no_value_behind t (LoadFunction i o) (suc j) e = cc
 no_value_behind t LoadConstant zero e = cc
 no_value_behind t LoadConstant (suc j) e = cc
 no_value_behind t _ j e = cc
@@ -186,14 +192,6 @@ taker_in (Ports x y ∷ links) from b e = go (is_port x from) refl e (λ q. take
         inl (ap₂ Ports (λ i. record { node = sym r.0 i; index = sym r.1 i }) (sym (some_is y b q)))
     go false ec q rest = inr (rest q)
 
--- a number past the nodes has no function
-within : (g : Graph) (n : ℕ) (name : List ℕ) (i o : Types) → op_at g n ≡ FuncDefn name i o → n < length g.nodes
-unfolding op_at
-within g n name i o e = elim (cases_lt n (length g.nodes)) [ inl l ↦ l | inr l ↦ absurd (no (ap op_of (sym (slice_get_past g.nodes n l)) ∙ e)) ]
-  where
-    no : Module ≡ FuncDefn name i o → ⊥
-    no h = cc
-
 -- ---- rules
 pub inner_of : (o : Op) → stands_in_region o ≡ true → is_boundary o ≡ false → is_inner o ≡ true
 inner_of (Const v) s b = refl
@@ -203,6 +201,8 @@ inner_of (Conditional r i o) s b = refl
 inner_of (TailLoop a l r) s b = refl
 inner_of (Tag r t) s b = refl
 inner_of (Call i o) s b = refl
+inner_of (CallIndirect i o) s b = refl
+inner_of (LoadFunction i o) s b = refl
 inner_of LoadConstant s b = refl
 inner_of (Ext e) s b = refl
 inner_of _ s b = absurd cc
@@ -353,6 +353,15 @@ module _ (g : Graph) (V : IsValid g) where
       types_are : (u : Types) → ExitBlock u ≡ ExitBlock t → t ≡ u
       types_are u h = cc
 
+  -- a function that is loaded is the first of its name
+  loaded : (n : ℕ) (ins outs : Types) → n < length g.nodes → op_at g n ≡ LoadFunction ins outs
+      → (f : Port) × (name : List ℕ) × (feeder g.links (static_input g n) ≡ Some f) × (op_at g f.node ≡ FuncDefn name ins outs) × (functions g name ≡ Some (record { ins = ins; outs = outs }))
+  loaded n i o l e =
+      let C = subst (KeepsCallee g n) e (V.keeps Valid.Callees n l) in
+      let inside = within g (C.source).node C.name i o C.is_function in
+      let new = subst (KeepsName g (C.source).node) C.is_function (V.keeps Valid.Names (C.source).node inside) in
+      (C.source, C.name, C.is_source, C.is_function, functions_new g (C.source).node C.name i o C.is_function new)
+
   smaller : (n p : ℕ) → p ≡ n → p < n → ⊥
   smaller n p e l = absurd (omega arith)
 
@@ -374,6 +383,7 @@ module _ (g : Graph) (V : IsValid g) where
     tags = λ n k rows l e. there_is rows k (subst KeepsTags e (V.keeps Valid.VariantsAndTags n l)).1;
     constants = is_constant;
     calls = λ n i o l e. let C = subst (KeepsCallee g n) e (V.keeps Valid.Callees n l) in (C.source, C.name, C.is_source, within g (C.source).node C.name i o C.is_function, C.is_function);
+    loads = loaded;
     first_blocks = λ n i o l e. subst (KeepsBlocks g n) e (V.keeps Valid.Blocks n l);
     controls = leads;
     exits = is_exit_of;

@@ -2,6 +2,7 @@ pub mod Lists
 pub mod Runs
 pub mod Wires
 pub mod Values
+pub mod Named
 pub mod Looks
 pub mod Children
 pub mod Known
@@ -27,5 +28,10 @@ pub mod Places
 pub mod Broken
 pub mod Tests
 pub mod Tested
+pub mod Decided
+pub mod Callees
+pub mod Turns
+pub mod Fitting
 pub mod Main
 pub mod Samples
+pub mod FunctionSamples

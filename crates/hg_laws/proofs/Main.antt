@@ -3,7 +3,6 @@ use Rattle.std.proofs.Common.{suc, [], sym, ap, subst}
 use Rattle.hg_laws.specs.Laws.{RunsAreClean, PicksChangeNothing, BoundsSuffice, RunsUnfold, AnyReadyFirst, ValidRegionsGoOn}
 use Rattle.hg_graph.specs.Run.{no_note, outs_at}
 use Rattle.hg_ops.specs.Op.{ins_of, outs_of}
-use Rattle.hg_graph.specs.Graph.{op_at}
 use Rattle.hg_graph.specs.Value.{HaveTypes, functions}
 use Rattle.hg_laws.proofs.Looks.{plus, In-ready}
 use Rattle.hg_laws.proofs.Flow.{partway_sound, sound_partway, sound_start, sound_plus, some_ready, all_fed, typed_inputs}

@@ -1,12 +1,12 @@
 -- What a run writes down at its moments changes nothing else of it.
 use Rattle.std.proofs.Common.{◌≡◌, ℕ, zero, suc, Bool, true, false, cond, ltb, List, [], ◌∷◌, ◌++◌, length, Option, Some, None, refl, ap, ◌∙◌}
 use Rattle.std.specs.Prelude.{slice_get}
-use Rattle.gp_base.specs.Run.{Run, Out, Returned, Stopped, Stuck, go_on, ◌>>=◌, ret, stop}
+use Rattle.gp_base.specs.Run.{Run, Out, Returned, Stopped, Stuck, go_on, ◌>>=◌, ret, stop, or_stuck}
 use Rattle.gp_base.specs.World.{World, take_turn}
-use Rattle.hg_ops.specs.Op.{Op, FuncDefn, Const, Dfg, Cfg, DataflowBlock, ExitBlock, Conditional, Case, TailLoop, Call, LoadConstant}
+use Rattle.hg_ops.specs.Op.{Op, FuncDefn, Const, Dfg, Cfg, DataflowBlock, ExitBlock, Conditional, Case, TailLoop, Call, CallIndirect, LoadConstant, LoadFunction}
 use Rattle.hg_graph.specs.Graph.{Graph, Port, op_at, children, firing_children, feeder, taker, static_input}
-use Rattle.hg_graph.specs.Run.{Fired, Open, outs_at, inputs, ready, perform, State, Note, no_note, with_world, on_world, choose, pick_from, or_stuck, at_moment, Enter, at_node, at_port, with_variant, constant, after_turn, fire_op, fire, firings, region, after_round, jump, enter_op, level, resume, runs, world_out}
-use Rattle.hg_graph.specs.Value.{Value, Variant, values}
+use Rattle.hg_graph.specs.Run.{Fired, Open, outs_at, inputs, ready, perform, State, Note, no_note, with_world, on_world, choose, pick_from, at_moment, Enter, at_node, at_port, with_variant, with_function, name_of_function, constant, after_turn, fire_op, fire, firings, region, after_round, jump, enter_op, level, resume, runs, world_out}
+use Rattle.hg_graph.specs.Value.{Value, Variant, Function, callee, values}
 
 -- the state without what was written down
 abbrev bare : {N : Type 0} → State N → State (Unit {0})
@@ -62,6 +62,14 @@ variant_mirrors : {N : Type 0} (vs : List Value) (k : ℕ → List Value → Run
 variant_mirrors (Variant n us ∷ vs) k l h = h n (values us ++ vs)
 variant_mirrors _ k l h = stuck_mirrors
 
+function_mirrors : {N : Type 0} (vs : List Value) (k : List ℕ → List Value → Run (State N) (List Value)) (l : List ℕ → List Value → Run (State (Unit {0})) (List Value)) → ((name : List ℕ) (us : List Value) → Mirrors (k name us) (l name us)) → Mirrors (with_function vs k) (with_function vs l)
+function_mirrors (Function name ∷ vs) k l h = h name vs
+function_mirrors _ k l h = stuck_mirrors
+
+name_mirrors : {N : Type 0} (kind : Op) → Mirrors {N = N} (name_of_function kind) (name_of_function kind)
+name_mirrors (FuncDefn name i o) = ret_mirrors _
+name_mirrors _ = stuck_mirrors
+
 const_mirrors : {N : Type 0} (kind : Op) → Mirrors {N = N} (constant kind) (constant kind)
 const_mirrors (Const n) = ret_mirrors _
 const_mirrors _ = stuck_mirrors
@@ -88,6 +96,8 @@ module _ {N : Type 0} (note : Note N) (g : Graph) where
     fire_mirrors (TailLoop a l r) outer n vs = MI.mirrors outer n vs
     fire_mirrors (Cfg i o) outer n vs = MI.mirrors outer n vs
     fire_mirrors (Call i o) outer n vs = at_port_mirrors (feeder g.links (static_input g n)) _ _ (λ f. turn_mirrors outer f vs)
+    fire_mirrors (CallIndirect i o) outer n vs = function_mirrors vs _ _ (λ name us. at_node_mirrors (callee g i o name) _ _ (λ f. turn_mirrors outer f us))
+    fire_mirrors (LoadFunction i o) outer n vs = at_port_mirrors (feeder g.links (static_input g n)) _ _ (λ f. name_mirrors (op_at g f))
     fire_mirrors LoadConstant outer n vs = at_port_mirrors (feeder g.links (static_input g n)) _ _ (λ c. const_mirrors (op_at g c))
     fire_mirrors kind outer n vs = world_mirrors (perform kind vs)
 

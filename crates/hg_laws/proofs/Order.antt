@@ -4,15 +4,15 @@ use Rattle.std.specs.Prelude.{slice_index_or}
 use Rattle.std.proofs.Math.Path.{fun_ext}
 use Rattle.std.proofs.lemmas.Bool.Decides.{eqb_tells}
 use Rattle.std.proofs.Math.Nat.{mod-lt}
-use Rattle.gp_base.specs.Run.{Run, Returned, Stuck, go_on, ◌>>=◌, ret, stop}
+use Rattle.gp_base.specs.Run.{Run, Returned, Stuck, go_on, ◌>>=◌, ret, stop, or_stuck}
 use Rattle.gp_base.specs.World.{World, start}
-use Rattle.hg_ops.specs.Op.{Op, Module, FuncDefn, Const, Input, Output, Dfg, Cfg, DataflowBlock, ExitBlock, Conditional, Case, TailLoop, Tag, Call, LoadConstant, Ext, ins_of, outs_of, fires, is_dataflow_container, is_effect}
+use Rattle.hg_ops.specs.Op.{Op, Types, Module, FuncDefn, Const, Input, Output, Dfg, Cfg, DataflowBlock, ExitBlock, Conditional, Case, TailLoop, Tag, Call, CallIndirect, LoadConstant, LoadFunction, Ext, ins_of, outs_of, fires, is_dataflow_container, is_effect}
 use Rattle.gp_base.specs.Membership.{In}
 use Rattle.hg_graph.specs.Graph.{Graph, Port, op_at, children, firing_children, feeder, static_input}
 use Rattle.hg_graph.specs.Ordered.{HasEffect, own, inside, IsOrdered}
-use Rattle.hg_graph.specs.Run.{Fired, Open, Look, outs_at, has_fired, inputs, Ready, ready, perform, no_note, on_world, choose, pick_from, or_stuck, at_moment, Enter, at_port, constant, fire_op, fire, firings, world_out}
+use Rattle.hg_graph.specs.Run.{Fired, Open, Look, outs_at, has_fired, inputs, Ready, ready, perform, no_note, on_world, choose, pick_from, at_moment, Enter, at_port, name_of_function, constant, fire_op, fire, firings, world_out}
 use Rattle.hg_graph.specs.Valid.{Edge, Path, edge, joined}
-use Rattle.hg_graph.specs.Value.{Value, Int, Variant, packed, HaveTypes, functions}
+use Rattle.hg_graph.specs.Value.{Value, Int, Variant, Function, packed, HaveTypes, functions}
 use Rattle.hg_laws.proofs.Runs.{Giving, Shows, bind_shows}
 use Rattle.hg_laws.proofs.Values.{or_false}
 use Rattle.hg_laws.proofs.Wires.{order_links, edge_cases}
@@ -81,18 +81,23 @@ module _ (g : Graph) (V : Known g) (inside again : Enter (Unit {0})) (TI : Typed
   const_shows : (o : Option Port) (c : Port) (v : ℤ) → o ≡ Some c → op_at g c.node ≡ Const v → (w : World) → seen (at_port o (λ x. constant (op_at g x))) w ≡ Returned (Int v ∷ []) w
   const_shows o c v e k w = ap (λ x. seen (at_port x (λ y. constant (op_at g y))) w) e ∙ ap (λ x. seen (constant x) w) k
 
+  name_shows : (o : Option Port) (f : Port) (name : List ℕ) (i u : Types) → o ≡ Some f → op_at g f.node ≡ FuncDefn name i u → (w : World) → seen (at_port o (λ x. name_of_function (op_at g x))) w ≡ Returned (Function name ∷ []) w
+  name_shows o f name i u e k w = ap (λ x. seen (at_port x (λ y. name_of_function (op_at g y))) w) e ∙ ap (λ x. seen (name_of_function x) w) k
+
   pure_fire : (n : ℕ) (vs : List Value) (kind : Op) → op_at g n ≡ kind → n < length g.nodes → length g.nodes ≤ D + n → has_effect g D n ≡ false → is_inner kind ≡ true → fires kind ≡ true → is_effect kind ≡ false → HaveTypes (functions g) vs (ins_of kind) → (us : List Value) × ((w : World) → seen (fire_op no_note g inside again kind [] n vs) w ≡ Returned us w)
   unfolding fire_op perform
   pure_fire n vs (Dfg i o) e l d ef k f x h =
       let r = PI.pure n vs l (ap is_plain e) d ef (subst (λ y. HaveTypes (functions g) vs (entry_ins y)) (sym e) h) in (r.0, r.2)
   pure_fire n vs (Conditional rs i o) e l d ef k f x h =
       let r = PI.pure n vs l (ap is_plain e) d ef (subst (λ y. HaveTypes (functions g) vs (entry_ins y)) (sym e) h) in (r.0, r.2)
+  pure_fire n vs (LoadFunction i o) e l d ef k f x h = let c = V.loads n i o l e in (Function c.1 ∷ [], name_shows (feeder g.links (static_input g n)) c.0 c.1 i o c.2 c.3)
   pure_fire n vs LoadConstant e l d ef k f x h = let c = V.constants n l e in (Int c.1 ∷ [], const_shows (feeder g.links (static_input g n)) c.0 c.1 c.2 c.3)
   pure_fire n vs (Tag rows t) e l d ef k f x h = (Variant t (packed vs) ∷ [], λ w. refl)
   pure_fire n vs (Ext y) e l d ef k f x h = let p = pure_extension (functions g) y vs x h in (p.0, λ w. ap (λ o. world_out (Rattle.hg_graph.specs.Run.with_world (at w []) o)) (p.1 w))
   pure_fire n vs (TailLoop a b r) e l d ef k f x h = absurd cc
   pure_fire n vs (Cfg i o) e l d ef k f x h = absurd cc
   pure_fire n vs (Call i o) e l d ef k f x h = absurd cc
+  pure_fire n vs (CallIndirect i o) e l d ef k f x h = absurd cc
   pure_fire n vs Module e l d ef k f x h = absurd cc
   pure_fire n vs (FuncDefn name i o) e l d ef k f x h = absurd cc
   pure_fire n vs (Input r) e l d ef k f x h = absurd cc

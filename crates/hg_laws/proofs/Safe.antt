@@ -4,16 +4,16 @@ use Rattle.std.specs.Prelude.{slice_get}
 use Rattle.std.proofs.lemmas.Bool.{eqb-true, ltb-true}
 use Rattle.std.proofs.Math.Nat.{mod-lt}
 use Rattle.gp_base.specs.Clean.{world_after}
-use Rattle.gp_base.specs.Run.{Run, Out, Returned, Stopped, TurnsUsed, OutcomesUsed, DivisionByZero, Stuck, go_on, ◌>>=◌, ret}
+use Rattle.gp_base.specs.Run.{Run, Out, Returned, Stopped, TurnsUsed, OutcomesUsed, DivisionByZero, Stuck, go_on, ◌>>=◌, ret, or_stuck}
 use Rattle.gp_base.specs.World.{World, take_turn, turn_of}
-use Rattle.hg_ops.specs.GraphType.{sum_type}
-use Rattle.hg_ops.specs.Op.{Op, Types, Module, FuncDefn, Const, Input, Output, Dfg, Cfg, DataflowBlock, ExitBlock, Conditional, Case, TailLoop, Tag, Call, LoadConstant, Ext, ins_of, outs_of, fires, is_dataflow_container, inner_ins, inner_outs}
+use Rattle.hg_ops.specs.GraphType.{sum_type, function_type}
+use Rattle.hg_ops.specs.Op.{Op, Types, Module, FuncDefn, Const, Input, Output, Dfg, Cfg, DataflowBlock, ExitBlock, Conditional, Case, TailLoop, Tag, Call, CallIndirect, LoadConstant, LoadFunction, Ext, ins_of, outs_of, fires, is_dataflow_container, inner_ins, inner_outs}
 use Rattle.gp_base.specs.Membership.{In}
 use Rattle.hg_graph.specs.Graph.{Graph, Port, op_at, children, firing_children, feeder, taker, static_input}
 use Rattle.hg_graph.specs.Moments.{FiredOnce, IsGoodOpen, AreGoodOpen, EndsWell}
-use Rattle.hg_graph.specs.Run.{Fired, Open, outs_at, has_fired, inputs, Ready, ready, perform, State, Note, with_world, on_world, choose, pick_from, or_stuck, at_moment, Enter, at_node, at_port, with_variant, constant, after_turn, fire_op, fire, firings, region, after_round, jump, enter_op, level, resume}
+use Rattle.hg_graph.specs.Run.{Fired, Open, outs_at, has_fired, inputs, Ready, ready, perform, State, Note, with_world, on_world, choose, pick_from, at_moment, Enter, at_node, at_port, with_variant, with_function, name_of_function, constant, after_turn, fire_op, fire, firings, region, after_round, jump, enter_op, level, resume}
 use Rattle.hg_graph.specs.Valid.{is_block, block_ins}
-use Rattle.hg_graph.specs.Value.{Value, Int, Qubit, Variant, values, HaveTypes, functions}
+use Rattle.hg_graph.specs.Value.{Value, Int, Qubit, Variant, Function, callee, values, HasType, HaveTypes, functions}
 use Rattle.hg_laws.proofs.Runs.{Giving, Gives, no_types}
 use Rattle.hg_laws.proofs.Values.{uses-packed, uses-values, uses-append, have-append, variant_row}
 use Rattle.hg_laws.proofs.Wires.{value_links, order_links, edge_cases}
@@ -22,6 +22,7 @@ use Rattle.hg_laws.proofs.Ops.{perform_relates}
 use Rattle.hg_laws.proofs.Looks.{IsReady, In-ready, orders_in}
 use Rattle.hg_laws.proofs.Flow.{IsRegion, Sound, typed_inputs, sound_plus, sound_start, some_ready, all_fed, fed_by_fired}
 use Rattle.hg_laws.proofs.Children.{get_in, child_is, kid_is}
+use Rattle.hg_laws.proofs.Named.{names_function}
 use Rattle.hg_laws.proofs.Known.{is_inner, Known, region_of}
 use Rattle.hg_laws.proofs.Regions.{is_region, child_greater, inner_kid}
 use Rattle.hg_laws.proofs.Typed.{entry_ins, fire_gives, region_at, level_typed, resume_typed, TypedEnter, place_in, option_same}
@@ -195,6 +196,16 @@ module _ {N : Type 0} (I : N → Type 0) where
       const_safe : (outer : List Open) (kind : Op) (v : ℤ) (w : World) → kind ≡ Const v → Here outer [] w → w.turns < suc b → Safe (Post outer) (constant kind) w
       const_safe outer kind v w e h t = subst (λ x. Safe (Post outer) (constant x) w) (sym e) (ret_safe (Post outer) (Int v ∷ []) w (record { count = λ q. let z = h.count q in omega arith; later = h.later }, t))
 
+      name_safe : (outer : List Open) (kind : Op) (name : List ℕ) (i u : Types) (w : World) → kind ≡ FuncDefn name i u → Here outer [] w → w.turns < suc b → Safe (Post outer) (name_of_function kind) w
+      name_safe outer kind name i u w e h t = subst (λ x. Safe (Post outer) (name_of_function x) w) (sym e) (ret_safe (Post outer) (Function name ∷ []) w (record { count = λ q. let z = h.count q in omega arith; later = h.later }, t))
+
+      function_safe : (S : List Value → World → Type 0) (outer : List Open) (vs : List Value) (i o ts : Types) (go : List ℕ → List Value → Run (State N) (List Value)) (w : World) → HaveTypes (functions g) vs (function_type i o ∷ ts) → Here outer vs w → ((name : List ℕ) (us : List Value) → HasType (functions g) (Function name) (function_type i o) → HaveTypes (functions g) us ts → Here outer us w → Safe S (go name us) w) → Safe S (with_function vs go) w
+      function_safe S outer [] i o ts go w h bal f = absurd h
+      function_safe S outer (Int n ∷ vs) i o ts go w h bal f = absurd h.0
+      function_safe S outer (Qubit n ∷ vs) i o ts go w h bal f = absurd h.0
+      function_safe S outer (Variant k us ∷ vs) i o ts go w h bal f = absurd h.0
+      function_safe S outer (Function name ∷ vs) i o ts go w h bal f = f name vs h.0 h.1 (record { count = λ q. let z = bal.count q in omega arith; later = bal.later })
+
       leaf_safe : (outer : List Open) (kind : Op) (vs : List Value) (w : World) → is_leaf kind ≡ true → HaveTypes (functions g) vs (ins_of kind) → Here outer vs w → w.turns < suc b → Safe (Post outer) (on_world (perform kind vs)) w
       leaf_safe outer kind vs w k h bal t =
           safe_map (Kept start (elsewhere g foreign outer) w.turns) (Post outer) (on_world (perform kind vs)) w (λ a v q. (q.0, subst (λ x. x < suc b) (sym q.1) t))
@@ -214,6 +225,13 @@ module _ {N : Type 0} (I : N → Type 0) where
       fire_safe outer n vs w (Call i o) e l k f d h os bal t =
           let c = V.calls n i o l e in
           at_port_safe (Post outer) (feeder g.links (static_input g n)) _ w c.0 c.2 (again_safe outer (c.0).node vs w (FuncDefn c.1 i o) c.4 c.3 refl h os bal t)
+      fire_safe outer n vs w (CallIndirect i o) e l k f d h os bal t =
+          function_safe (Post outer) outer vs i o i _ w h bal (λ name us ty ts bl.
+          let c = names_function g name i o ty in
+          at_node_safe (Post outer) (callee g i o name) _ w c.place c.found (again_safe outer c.place us w (FuncDefn c.name i o) c.is_function c.is_node refl ts os bl t))
+      fire_safe outer n vs w (LoadFunction i o) e l k f d h os bal t =
+          let c = V.loads n i o l e in
+          at_port_safe (Post outer) (feeder g.links (static_input g n)) _ w c.0 c.2 (name_safe outer (op_at g (c.0).node) c.1 i o w c.3 (subst (λ us. Here outer us w) (no_values' vs h) bal) t)
       fire_safe outer n vs w LoadConstant e l k f d h os bal t =
           let c = V.constants n l e in
           at_port_safe (Post outer) (feeder g.links (static_input g n)) _ w c.0 c.2 (const_safe outer (op_at g (c.0).node) c.1 w c.3 (subst (λ us. Here outer us w) (no_values' vs h) bal) t)
@@ -356,6 +374,7 @@ module _ {N : Type 0} (I : N → Type 0) where
       variant_safe S outer [] rows ts go w h bal f = absurd h
       variant_safe S outer (Int n ∷ vs) rows ts go w h bal f = absurd h.0
       variant_safe S outer (Qubit n ∷ vs) rows ts go w h bal f = absurd h.0
+      variant_safe S outer (Function n ∷ vs) rows ts go w h bal f = absurd h.0
       variant_safe S outer (Variant k us ∷ vs) rows ts go w h bal f =
           let r = variant_row (functions g) rows k us h.0 in
           f k r.0 (values us ++ vs) r.1 (have-append (functions g) (values us) vs r.0 ts r.2 h.1)

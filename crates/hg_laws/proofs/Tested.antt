@@ -2,7 +2,7 @@
 use Rattle.std.proofs.Common.{◌≡◌, ◌≢◌, ◌⊎◌, inl, inr, ℕ, zero, suc, ◌+◌, ◌<◌, ◌≤◌, Bool, true, false, not, ◌&&◌, ◌||◌, eqb, ltb, List, [], ◌∷◌, length, filter, is_some, refl, sym, ap, ◌∙◌, subst, arith}
 use Rattle.std.proofs.lemmas.Bool.{eqb-true, ltb-true, cases_lt}
 use Rattle.std.proofs.lemmas.Option.{slice_get_past}
-use Rattle.hg_ops.specs.Op.{Op, FuncDefn, Cfg, DataflowBlock, Conditional, Call, LoadConstant, ins_of, outs_of, is_dataflow_container, is_effect}
+use Rattle.hg_ops.specs.Op.{Op, FuncDefn, Cfg, DataflowBlock, Conditional, Call, LoadConstant, LoadFunction, ins_of, outs_of, is_dataflow_container, is_effect}
 use Rattle.gp_base.specs.Membership.{In}
 use Rattle.hg_graph.specs.Graph.{Graph, Port, Link, Ports, Order, IsGraph, op_of, op_at, parent_at, children, firing_children, feeder, links_into, static_input}
 use Rattle.hg_graph.specs.Ordered.{HasEffect, own, inside, IsOrdered}
@@ -43,11 +43,15 @@ module _ (g : Graph) where
 
   abbrev static_ok : ℕ → Op → Bool
   static_ok n (Call ins outs) = is_some (feeder g.links (static_input g n)) && eqb (links_into g.links (static_input g n)) 1
+  static_ok n (LoadFunction ins outs) = is_some (feeder g.links (static_input g n)) && eqb (links_into g.links (static_input g n)) 1
   static_ok n LoadConstant = constant_ok g n (feeder g.links (static_input g n)) && eqb (links_into g.links (static_input g n)) 1
   static_ok n _ = true
 
   static_keeps : (n : ℕ) (o : Op) → static_ok n o ≡ true → KeepsStatic g n o
   static_keeps n (Call ins outs) e =
+      let b = both (is_some (feeder g.links (static_input g n))) (eqb (links_into g.links (static_input g n)) 1) e in
+      static g n (feeder g.links (static_input g n)) refl b.0 (eqb-true (links_into g.links (static_input g n)) 1 b.1)
+  static_keeps n (LoadFunction ins outs) e =
       let b = both (is_some (feeder g.links (static_input g n))) (eqb (links_into g.links (static_input g n)) 1) e in
       static g n (feeder g.links (static_input g n)) refl b.0 (eqb-true (links_into g.links (static_input g n)) 1 b.1)
   static_keeps n LoadConstant e =
@@ -57,10 +61,12 @@ module _ (g : Graph) where
 
   abbrev callees_ok : ℕ → Op → Bool
   callees_ok n (Call ins outs) = callee_ok g (feeder g.links (static_input g n)) ins outs
+  callees_ok n (LoadFunction ins outs) = callee_ok g (feeder g.links (static_input g n)) ins outs
   callees_ok n _ = true
 
   callees_keep : (n : ℕ) (o : Op) → callees_ok n o ≡ true → KeepsCallee g n o
   callees_keep n (Call ins outs) e = callee g n ins outs (feeder g.links (static_input g n)) refl e
+  callees_keep n (LoadFunction ins outs) e = callee g n ins outs (feeder g.links (static_input g n)) refl e
   callees_keep n _ e = tt
 
   abbrev names_ok : ℕ → Op → Bool
@@ -149,15 +155,15 @@ module _ (g : Graph) where
 
 -- ---- order
 module _ (g : Graph) where
-  abbrev joins : ℕ → ℕ → Link → Bool
+  abbrev pub joins : ℕ → ℕ → Link → Bool
   joins a b (Ports p q) = eqb p.node a && (eqb q.node b && ltb q.index (length (ins_of (op_at g q.node))))
   joins a b (Order x y) = eqb x a && eqb y b
 
-  any_link : (test : Link → Bool) (links : List Link) → any test links ≡ true → (link : Link) × In link links × (test link ≡ true)
+  pub any_link : (test : Link → Bool) (links : List Link) → any test links ≡ true → (link : Link) × In link links × (test link ≡ true)
   any_link test [] e = absurd cc
   any_link test (x ∷ links) e = elim (either (test x) (any test links) e) [ inl h ↦ (x, inl refl, h) | inr h ↦ let r = any_link test links h in (r.0, inr r.1, r.2) ]
 
-  link_edge : (a b : ℕ) (link : Link) → In link g.links → joins a b link ≡ true → Edge g a b
+  pub link_edge : (a b : ℕ) (link : Link) → In link g.links → joins a b link ≡ true → Edge g a b
   link_edge a b (Ports p q) i e =
       let x = both (eqb p.node a) _ e in
       let y = both (eqb q.node b) (ltb q.index (length (ins_of (op_at g q.node)))) x.1 in
@@ -209,7 +215,7 @@ module _ (g : Graph) where
   or_true false b (inl h) = absurd cc
   or_true false b (inr h) = h
 
-  any_of : {A : Type 0} (test : A → Bool) (xs : List A) (x : A) → In x xs → test x ≡ true → any test xs ≡ true
+  pub any_of : {A : Type 0} (test : A → Bool) (xs : List A) (x : A) → In x xs → test x ≡ true → any test xs ≡ true
   any_of test [] x i e = absurd i
   any_of test (y ∷ xs) x (inl s) e = or_true (test y) (any test xs) (inl (ap test (sym s) ∙ e))
   any_of test (y ∷ xs) x (inr i) e = or_true (test y) (any test xs) (inr (any_of test xs x i e))

@@ -8,7 +8,8 @@ use Rattle.std.proofs.lemmas.Slice.Eq.{bytes_eq-Decides}
 use Rattle.gp_base.specs.Tag.{IsPrintable, IsTag}
 use Rattle.hg_ops.specs.GraphType as type
 use Rattle.hg_ops.specs.GraphType.{GraphType, Row, Rows, no_types, next, no_rows, next_row, is_linear}
-use Rattle.hg_ops.specs.Op.{Op, Types, Module, FuncDefn, Const, Input, Output, Dfg, Cfg, DataflowBlock, ExitBlock, Conditional, Case, TailLoop, Tag, Call, LoadConstant, Ext, ResultInt, ResultBool, PortKind, ValuePort, ControlPort, FunctionPort, ConstantPort, ins_of, input_ports, output_ports, is_operation, inner_ins, inner_outs}
+use Rattle.hg_ops.specs.Op.{Op, Types, Module, FuncDefn, Const, Input, Output, Dfg, Cfg, DataflowBlock, ExitBlock, Conditional, Case, TailLoop, Tag, Call, CallIndirect, LoadConstant, LoadFunction, Ext, ResultInt, ResultBool, PortKind, ValuePort, ControlPort, FunctionPort, ConstantPort, ins_of, input_ports, output_ports, is_operation, inner_ins, inner_outs}
+use Rattle.hg_ops.specs.SameType.{same_type, same_row, same_rows, same_types}
 use Rattle.gp_base.specs.Membership.{In}
 use Rattle.hg_graph.specs.Graph.{Graph, Port, Link, Ports, Order, LinkIsWithin, op_at, parent_at, children, feeder, taker, links_into, links_from, static_input}
 use Rattle.hg_graph.specs.Valid.{KeepsTags, HasPlace, HasBoundary, HasBlocks, HasCases, HasStatic, HasConstant, HasCallee, HasSuccessor, LinksJoin, LinksStayInside, Path, IsAncestor, of_child, of_further, edge, joined, along_value, along_order, is_module, is_boundary, is_output, is_input, is_exit, is_block, is_local, block_ins, name_of}
@@ -51,28 +52,12 @@ in_below test (suc n) p e l = elim (eqb_tells p n) [
     less ne = omega arith
 
 -- ---- equal types
-abbrev mutual
-  same_type : GraphType → GraphType → Bool
-  same_type type.Int type.Int = true
-  same_type type.Qubit type.Qubit = true
-  same_type (type.Sum a) (type.Sum b) = same_rows a b
-  same_type _ _ = false
-
-  same_row : Row → Row → Bool
-  same_row no_types no_types = true
-  same_row (next t r) (next u s) = same_type t u && same_row r s
-  same_row _ _ = false
-
-  same_rows : Rows → Rows → Bool
-  same_rows no_rows no_rows = true
-  same_rows (next_row r rs) (next_row s ss) = same_row r s && same_rows rs ss
-  same_rows _ _ = false
-
 mutual
   type_same : (t u : GraphType) → same_type t u ≡ true → t ≡ u
   type_same type.Int type.Int e = refl
   type_same type.Qubit type.Qubit e = refl
   type_same (type.Sum a) (type.Sum b) e = ap type.Sum (rows_same a b e)
+  type_same (type.Function a b) (type.Function c d) e = let r = both (same_row a c) (same_row b d) e in ap₂ type.Function (row_same a c r.0) (row_same b d r.1)
   type_same _ _ e = absurd cc
 
   row_same : (r s : Row) → same_row r s ≡ true → r ≡ s
@@ -85,12 +70,7 @@ mutual
   rows_same (next_row r rs) (next_row s ss) e = let b = both (same_row r s) (same_rows rs ss) e in ap₂ next_row (row_same r s b.0) (rows_same rs ss b.1)
   rows_same _ _ e = absurd cc
 
-abbrev same_types : Types → Types → Bool
-same_types [] [] = true
-same_types (t ∷ ts) (u ∷ us) = same_type t u && same_types ts us
-same_types _ _ = false
-
-types_same : (ts us : Types) → same_types ts us ≡ true → ts ≡ us
+pub types_same : (ts us : Types) → same_types ts us ≡ true → ts ≡ us
 types_same [] [] e = refl
 types_same (t ∷ ts) (u ∷ us) e = let b = both (same_type t u) (same_types ts us) e in ap₂ (λ x l. x ∷ l) (type_same t u b.0) (types_same ts us b.1)
 types_same _ _ e = absurd cc
@@ -149,14 +129,14 @@ module_of Module e = refl
 module_of _ e = absurd cc
 
 -- ---- kinds of ports
-abbrev same_kind : Option PortKind → Option PortKind → Bool
+abbrev pub same_kind : Option PortKind → Option PortKind → Bool
 same_kind (Some (ValuePort t)) (Some (ValuePort u)) = same_type t u
 same_kind (Some ControlPort) (Some ControlPort) = true
 same_kind (Some FunctionPort) (Some FunctionPort) = true
 same_kind (Some ConstantPort) (Some ConstantPort) = true
 same_kind _ _ = false
 
-kind_same : (a b : Option PortKind) → same_kind a b ≡ true → (k : PortKind) × (a ≡ Some k) × (b ≡ Some k)
+pub kind_same : (a b : Option PortKind) → same_kind a b ≡ true → (k : PortKind) × (a ≡ Some k) × (b ≡ Some k)
 kind_same (Some (ValuePort t)) (Some (ValuePort u)) e = (ValuePort u, ap (λ x. Some (ValuePort x)) (type_same t u e), refl)
 kind_same (Some ControlPort) (Some ControlPort) e = (ControlPort, refl, refl)
 kind_same (Some FunctionPort) (Some FunctionPort) e = (FunctionPort, refl, refl)
@@ -406,10 +386,12 @@ module _ (g : Graph) where
   no_name (TailLoop a l r) name e q = cc
   no_name (Tag r t) name e q = cc
   no_name (Call i o) name e q = cc
+  no_name (CallIndirect i o) name e q = cc
   no_name LoadConstant name e q = cc
+  no_name (LoadFunction i o) name e q = cc
   no_name (Ext x) name e q = cc
 
-abbrev printable : ℕ → Bool
+abbrev pub printable : ℕ → Bool
 printable byte = leb 32 byte && leb byte 126
 
 all_printable : (tag : List ℕ) → all_in printable tag ≡ true → All IsPrintable tag
@@ -417,10 +399,10 @@ all_printable [] e k d l = absurd (omega arith)
 all_printable (c ∷ tag) e zero d l = let b = both (printable c) (all_in printable tag) e in let r = both (leb 32 c) (leb c 126) b.0 in (leb-true 32 c r.0, leb-true c 126 r.1)
 all_printable (c ∷ tag) e (suc k) d l = all_printable tag (both (printable c) (all_in printable tag) e).1 k d (omega arith)
 
-abbrev tag_ok : List ℕ → Bool
+abbrev pub tag_ok : List ℕ → Bool
 tag_ok tag = ltb 0 (length tag) && (leb (length tag) 255 && all_in printable tag)
 
-is_tag : (tag : List ℕ) → tag_ok tag ≡ true → IsTag tag
+pub is_tag : (tag : List ℕ) → tag_ok tag ≡ true → IsTag tag
 is_tag tag e =
     let a = both (ltb 0 (length tag)) _ e in
     let b = both (leb (length tag) 255) (all_in printable tag) a.1 in

@@ -1,23 +1,24 @@
 -- What a run returns has its types, in whatever world.
 use Rattle.std.proofs.Common.{◌≡◌, inl, inr, ℕ, zero, suc, ◌%◌, ◌<◌, Bool, true, false, cond, ltb, ℤ, List, [], ◌∷◌, ◌++◌, length, Option, Some, None, refl, sym, ap, ◌∙◌, subst, arith, mod-lt}
 use Rattle.std.specs.Prelude.{slice_get, slice_index_or}
-use Rattle.gp_base.specs.Run.{Run, Out, Returned, Stopped, ◌>>=◌, ret, stop}
+use Rattle.gp_base.specs.Run.{Run, Out, Returned, Stopped, ◌>>=◌, ret, stop, or_stuck}
 use Rattle.gp_base.specs.Number.{is_same}
 use Rattle.gp_base.specs.declared.event.Event.TheVariants as event
 use Rattle.gp_base.specs.declared.event.GateName.TheVariants as name
 use Rattle.gp_base.specs.World.{World, allocate, free, measure, measure_free, reset, apply_gate, apply_gate_on_two, apply_gate_on_three, rotate, does, take_turn}
 use Rattle.hg_ops.specs.GraphType as type
-use Rattle.hg_ops.specs.GraphType.{GraphType, sum_type, tuple_type, bool_type}
+use Rattle.hg_ops.specs.GraphType.{GraphType, sum_type, tuple_type, bool_type, function_type}
 use Rattle.hg_ops.specs.Op as op
-use Rattle.hg_ops.specs.Op.{one_qubit_name, two_qubit_name, rotation_name, Op, Types, Extension, Module, FuncDefn, Const, Input, Output, Dfg, Cfg, DataflowBlock, ExitBlock, Conditional, Case, TailLoop, Tag, Call, LoadConstant, Ext, Division, extension_ins, extension_outs, ins_of, outs_of, is_dataflow_container, inner_ins, inner_outs}
+use Rattle.hg_ops.specs.Op.{one_qubit_name, two_qubit_name, rotation_name, Op, Types, Extension, Module, FuncDefn, Const, Input, Output, Dfg, Cfg, DataflowBlock, ExitBlock, Conditional, Case, TailLoop, Tag, Call, CallIndirect, LoadConstant, LoadFunction, Ext, Division, extension_ins, extension_outs, ins_of, outs_of, is_dataflow_container, inner_ins, inner_outs}
 use Rattle.gp_base.specs.Membership.{In}
 use Rattle.hg_graph.specs.Graph.{Graph, Port, op_at, parent_at, children, firing_children, feeder, taker, static_input}
-use Rattle.hg_graph.specs.Run.{Fired, Open, outs_at, inputs, ready, with_tuple, nothing, divide, divided, perform_extension, perform, State, Note, on_world, choose, pick_from, or_stuck, at_moment, Enter, at_node, at_port, with_variant, constant, after_turn, fire_op, fire, firings, region, after_round, jump, enter_op, level, resume}
+use Rattle.hg_graph.specs.Run.{Fired, Open, outs_at, inputs, ready, with_tuple, nothing, divide, divided, perform_extension, perform, State, Note, on_world, choose, pick_from, at_moment, Enter, at_node, at_port, with_variant, with_function, name_of_function, constant, after_turn, fire_op, fire, firings, region, after_round, jump, enter_op, level, resume}
 use Rattle.hg_graph.specs.Valid.{is_block, block_ins}
-use Rattle.hg_graph.specs.Value.{Value, Int, Qubit, Variant, values, packed, truth, Functions, HasType, HaveTypes, functions}
+use Rattle.hg_graph.specs.Value.{Value, Int, Qubit, Variant, Function, values, packed, truth, callee, Functions, HasType, HaveTypes, functions}
 use Rattle.hg_laws.proofs.Runs.{Giving, Gives, then_gives, no_types, on_world_gives}
 use Rattle.hg_laws.proofs.Values.{have-append, no_row, variant_row, row_variant}
 use Rattle.hg_laws.proofs.Matches.{qubit_case, two_qubits_case, three_qubits_case, angle_case, int_case, two_ints_case, bool_case, two_bools_case}
+use Rattle.hg_laws.proofs.Named.{names_function, function_typed}
 use Rattle.hg_laws.proofs.Looks.{In-ready}
 use Rattle.hg_laws.proofs.Flow.{IsRegion, Sound, typed_inputs, sound_plus, sound_start}
 use Rattle.hg_laws.proofs.Children.{get_in, child_is, kid_is}
@@ -45,7 +46,7 @@ pub stuck_gives : {S A : Type 0} (Q : A → Type 0) → Gives {S = S} Q (stop Ra
 stuck_gives Q = record { gives = λ s. tt }
 
 -- ---- extension ops
-after_gives : {A : Type 0} (Q : List Value → Type 0) (m : Run World A) (k : A → Run World (List Value)) → ((a : A) → Gives Q (k a)) → Gives Q (m >>= k)
+pub after_gives : {A : Type 0} (Q : List Value → Type 0) (m : Run World A) (k : A → Run World (List Value)) → ((a : A) → Gives Q (k a)) → Gives Q (m >>= k)
 after_gives Q m k h = then_gives (λ _. Unit {0}) Q m k (no_types m) (λ a _. h a)
 
 module _ (F : Functions) where
@@ -64,6 +65,7 @@ module _ (F : Functions) where
   tuple_gives ts [] h = absurd h
   tuple_gives ts (Int n ∷ vs) h = absurd h.0
   tuple_gives ts (Qubit n ∷ vs) h = absurd h.0
+  tuple_gives ts (Function n ∷ vs) h = absurd h.0
   tuple_gives ts (Variant zero us ∷ []) h = record { gives = λ w. let r = variant_row F (ts ∷ []) 0 us h.0 in subst (HaveTypes F (values us)) (sym (is ts r.0 r.1)) r.2 }
     where
       is : (a b : Types) → Some a ≡ Some b → a ≡ b
@@ -125,7 +127,15 @@ pub variant_gives : {N : Type 0} (F : Functions) (Q : List Value → Type 0) (vs
 variant_gives F Q [] rows ts go h f = record { gives = λ s. tt }
 variant_gives F Q (Int n ∷ vs) rows ts go h f = record { gives = λ s. tt }
 variant_gives F Q (Qubit n ∷ vs) rows ts go h f = record { gives = λ s. tt }
+variant_gives F Q (Function n ∷ vs) rows ts go h f = record { gives = λ s. tt }
 variant_gives F Q (Variant k us ∷ vs) rows ts go h f = let r = variant_row F rows k us h.0 in f k r.0 (values us ++ vs) r.1 (have-append F (values us) vs r.0 ts r.2 h.1)
+
+pub function_gives : {N : Type 0} (F : Functions) (Q : List Value → Type 0) (vs : List Value) (i o ts : Types) (go : List ℕ → List Value → Run (State N) (List Value)) → HaveTypes F vs (function_type i o ∷ ts) → ((name : List ℕ) (us : List Value) → HasType F (Function name) (function_type i o) → HaveTypes F us ts → Gives Q (go name us)) → Gives Q (with_function vs go)
+function_gives F Q [] i o ts go h f = record { gives = λ s. tt }
+function_gives F Q (Int n ∷ vs) i o ts go h f = record { gives = λ s. tt }
+function_gives F Q (Qubit n ∷ vs) i o ts go h f = record { gives = λ s. tt }
+function_gives F Q (Variant k us ∷ vs) i o ts go h f = record { gives = λ s. tt }
+function_gives F Q (Function name ∷ vs) i o ts go h f = f name vs h.0 h.1
 
 pub at_node_gives : {N : Type 0} (Q : List Value → Type 0) (o : Option ℕ) (k : ℕ → Run (State N) (List Value)) → ((n : ℕ) → o ≡ Some n → Gives Q (k n)) → Gives Q (at_node o k)
 at_node_gives Q None k h = record { gives = λ s. tt }
@@ -166,6 +176,18 @@ module _ {N : Type 0} (note : Note N) (g : Graph) (V : Known g) (inside again : 
       at_port_gives _ (feeder g.links (static_input g n)) _ (λ f q.
       let same : c.0 ≡ f = option_same (feeder g.links (static_input g n)) c.0 f c.2 q in
       enters_again outer f.node vs (FuncDefn c.1 i o) (ap (λ x. op_at g x.node) (sym same) ∙ c.4) (subst (λ x. x.node < length g.nodes) same c.3) h)
+  fire_gives outer n vs (CallIndirect i o) e l h =
+      function_gives (functions g) _ vs i o i _ h (λ name us t ts.
+      let c = names_function g name i o t in
+      at_node_gives _ (callee g i o name) _ (λ f q.
+      let same : c.place ≡ f = option_same (callee g i o name) c.place f c.found q in
+      enters_again outer f us (FuncDefn c.name i o) (ap (op_at g) (sym same) ∙ c.is_function) (subst (λ x. x < length g.nodes) same c.is_node) ts))
+  fire_gives outer n vs (LoadFunction i o) e l h =
+      let c = V.loads n i o l e in
+      at_port_gives _ (feeder g.links (static_input g n)) _ (λ f q.
+      let same : c.0 ≡ f = option_same (feeder g.links (static_input g n)) c.0 f c.2 q in
+      subst (λ x. Gives (λ us. HaveTypes (functions g) us (function_type i o ∷ [])) (name_of_function {N = N} x)) (sym (ap (λ x. op_at g x.node) (sym same) ∙ c.3))
+      (record { gives = λ s. (function_typed g c.1 i o c.4, tt) }))
   fire_gives outer n vs LoadConstant e l h = at_port_gives _ (feeder g.links (static_input g n)) _ (λ c q. const_gives (functions g) (op_at g c.node))
   fire_gives outer n vs (Tag rows k) e l h =
       let t = V.tags n k rows l e in

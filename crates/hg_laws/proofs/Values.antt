@@ -5,7 +5,7 @@ use Rattle.hg_ops.specs.GraphType as type
 use Rattle.hg_ops.specs.GraphType.{GraphType, Row, Rows, no_types, next, no_rows, next_row, types, row_of, rows_of, sum_type, is_linear, row_linear, rows_linear}
 use Rattle.hg_ops.specs.Op.{Types}
 use Rattle.gp_base.specs.Membership.{In}
-use Rattle.hg_graph.specs.Value.{Value, Int, Qubit, Variant, Values, no_values, value, values, packed, Functions, row_at, HasType, HasRow, HaveTypes, uses, uses_packed, uses_all}
+use Rattle.hg_graph.specs.Value.{Value, Int, Qubit, Variant, Function, Values, no_values, value, values, packed, Functions, row_at, HasType, HasRow, HaveTypes, uses, uses_packed, uses_all}
 use Rattle.hg_laws.proofs.Lists.{ports, ports-suc, ports-zero}
 
 pub or_false : (a b : Bool) → (a || b) ≡ false → (a ≡ false) × (b ≡ false)
@@ -116,6 +116,9 @@ module _ (F : Functions) where
     copyable_uses q (Qubit p) type.Int h l = absurd h
     copyable_uses q (Qubit p) type.Qubit h l = absurd cc
     copyable_uses q (Qubit p) (type.Sum rs) h l = absurd h
+    copyable_uses q (Qubit p) (type.Function i o) h l = absurd h
+    copyable_uses q (Function name) t h l = refl
+    copyable_uses q (Variant k vs) (type.Function i o) h l = absurd h
     copyable_uses q (Variant k vs) type.Int h l = absurd h
     copyable_uses q (Variant k vs) type.Qubit h l = absurd h
     copyable_uses q (Variant k vs) (type.Sum rs) h l =

@@ -1,17 +1,17 @@
 -- What holds of all runs.
-use Rattle.std.specs.Prelude.{◌≡◌, ◌≢◌, ℕ, suc, ◌<◌, ◌≤◌, Bool, true, false, List, [], ◌∷◌, length, Some}
+use Rattle.std.specs.Prelude.{◌≡◌, ◌≢◌, ◌↔◌, ◌⊎◌, ℕ, suc, ◌<◌, ◌≤◌, Bool, true, false, List, [], ◌∷◌, length, Some}
 use Rattle.gp_base.specs.Clean.{IsCleanBetween, world_after}
-use Rattle.gp_base.specs.Run.{Returned, ◌>>=◌}
+use Rattle.gp_base.specs.Run.{Out, Returned, Stopped, Stuck, ◌>>=◌}
 use Rattle.gp_base.specs.World.{World, start, is_live}
-use Rattle.hg_ops.specs.GraphType.{GraphType, is_linear}
-use Rattle.hg_ops.specs.Op.{Types, FuncDefn, ins_of, outs_of, inner_ins, inner_outs, is_dataflow_container}
+use Rattle.hg_ops.specs.GraphType.{GraphType, is_linear, function_type}
+use Rattle.hg_ops.specs.Op.{Types, FuncDefn, ins_of, outs_of, inner_ins, inner_outs, is_dataflow_container, takes_turn}
 use Rattle.gp_base.specs.Membership.{In}
-use Rattle.hg_graph.specs.Graph.{Graph, op_at, firing_children}
+use Rattle.hg_graph.specs.Graph.{Graph, IsGraph, op_at, firing_children}
 use Rattle.hg_graph.specs.Moments.{HasOnePlace, EachMoment, IsProper, ReturnsItsQubits, EndsWell, IsPartway, noted_run, notes_of}
 use Rattle.hg_graph.specs.Ordered.{IsOrdered}
-use Rattle.hg_graph.specs.Run.{Fired, Open, outs_at, inputs, Ready, ready, State, no_note, fire, firings, enter_op, level, resume, runs, world_out, graph_run}
+use Rattle.hg_graph.specs.Run.{Fired, Open, outs_at, inputs, Ready, ready, State, Enter, no_note, after_turn, fire, firings, enter_op, level, resume, runs, world_out, graph_run}
 use Rattle.hg_graph.specs.Valid.{Rule, IsValid, IsBroken, HasBoundary}
-use Rattle.hg_graph.specs.Value.{Value, HaveTypes, functions}
+use Rattle.hg_graph.specs.Value.{Value, Function, HasType, HaveTypes, functions, callee}
 
 -- In a valid graph, whoever wrote it, under any picks and from proper arguments, each qubit has one place at each moment.
 abbrev pub ValidGraphsKeepPlaces : Type 0
@@ -75,6 +75,29 @@ AnyReadyFirst =
 pub record OneIsBroken : Type 0 where
   pub one : (g : Graph) (rule other : Rule) (n m : ℕ) → IsBroken g rule n → IsBroken g other m → (rule ≡ other) × (n ≡ m)
   pub none : (g : Graph) (rule : Rule) (n : ℕ) → IsValid g → IsBroken g rule n → ⊥
+
+-- An indirect call finds a function, of whatever graph, exactly where the value is of the function's type, and then the
+-- function has the value's name and the types of the call.
+abbrev pub CalleesAreTyped : Type 0
+CalleesAreTyped =
+    (g : Graph) (name : List ℕ) (ins outs : Types)
+    → HasType (functions g) (Function name) (function_type ins outs) ↔ ((f : ℕ) × (callee g ins outs name ≡ Some f) × (op_at g f ≡ FuncDefn name ins outs))
+
+-- A firing is stuck before anything happens, or takes a turn and then runs some node on some values.
+abbrev pub TakesTurn : Enter (Unit {0}) → List Open → State (Unit {0}) → Out (State (Unit {0})) (List Value) → Type 0
+TakesTurn again outer s fired =
+    (fired ≡ Stopped Stuck s) ⊎ ((f : ℕ) × (vs : List Value) × (fired ≡ after_turn again outer f vs s))
+
+-- Of whatever graph, the ops that take a turn each time that they fire are those that are said to.
+pub record CallsTakeTurns : Type 0 where
+  pub calls : (g : Graph) (inside again : Enter (Unit {0})) (outer : List Open) (n : ℕ) (vs : List Value) (s : State (Unit {0}))
+      → takes_turn (op_at g n) ≡ true → TakesTurn again outer s (fire no_note g inside again outer n vs s)
+  pub others : (g : Graph) (inside again other : Enter (Unit {0})) (outer : List Open) (n : ℕ) (vs : List Value) (s : State (Unit {0}))
+      → takes_turn (op_at g n) ≡ false → fire no_note g inside again outer n vs s ≡ fire no_note g inside other outer n vs s
+
+-- Each graph, whoever wrote it, is valid, or has a least rule that is broken and a least node that breaks it.
+abbrev pub ValidOrBroken : Type 0
+ValidOrBroken = (g : Graph) → IsGraph g → IsValid g ⊎ ((rule : Rule) × (n : ℕ) × IsBroken g rule n)
 
 -- What a region of a valid graph goes through as its children fire one by one: it begins partway, each firing that gives
 -- values of its types keeps it so with one child fewer to fire, something is ready while a child is to fire, and in the

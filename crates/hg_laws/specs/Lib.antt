@@ -1,2 +1,4 @@
 pub mod Laws
+pub mod Fits
 pub mod Samples
+pub mod FunctionSamples

@@ -91,7 +91,7 @@ pub record SamplesRun : Type 0 where
   pub loop_stops : graph_run loop 1 [] (start 1 (true ∷ true ∷ false ∷ [])) [] ≡ Stopped TurnsUsed (record { flags = true ∷ []; turns = 0; outcomes = false ∷ []; events = event.Alloc 0 ∷ event.Measure 0 true ∷ event.Measure 0 true ∷ [] })
   pub counts_down : graph_run counts 1 [] (start 5 []) [] ≡ Returned [] (record { flags = []; turns = 0; outcomes = []; events = event.ResultInt (codes "n") (negsuc 0) ∷ [] })
 
--- All four are valid, and all but `crossed` are ordered.
+-- All are valid, and all but `crossed` are ordered.
 pub record SamplesAreValid : Type 0 where
   pub thin_valid : IsValid thin
   pub crossed_valid : IsValid crossed

@@ -1,8 +1,10 @@
 //! Laws of program graphs and their runs. Each function does nothing: its contract is the law.
 #![tactic(auto)]
 
+ghost use Rattle.hg_laws.specs.Fits.{NumbersFit};
+ghost use Rattle.hg_laws.specs.FunctionSamples.{FunctionSamplesRun, FunctionSamplesAreSound};
 ghost use Rattle.hg_laws.specs.Samples.{NumbersAre, SamplesRun, SamplesAreValid};
-ghost use Rattle.hg_laws.specs.Laws.{ValidGraphsKeepPlaces, MomentsChangeNothing, ValidGraphsEndWell, RunsAreClean, ClosedRunsHoldNone, PicksChangeNothing, BoundsSuffice, RunsUnfold, AnyReadyFirst, ValidRegionsGoOn, OneIsBroken};
+ghost use Rattle.hg_laws.specs.Laws.{ValidGraphsKeepPlaces, MomentsChangeNothing, ValidGraphsEndWell, RunsAreClean, ClosedRunsHoldNone, PicksChangeNothing, BoundsSuffice, RunsUnfold, AnyReadyFirst, ValidRegionsGoOn, OneIsBroken, ValidOrBroken, CalleesAreTyped, CallsTakeTurns};
 
 /// In a valid graph, under any picks and from proper arguments, each moment of a run keeps these facts together: each
 /// qubit that is live and was allocated in this run or came with its arguments occurs exactly once in the values at
@@ -68,6 +70,29 @@ pub fn one_is_broken()
     ensures { OneIsBroken }
 {}
 
+/// Each graph is valid, or has a least broken rule and a least node that breaks it.
+pub fn valid_or_broken()
+    ensures { ValidOrBroken }
+{}
+
+/// A value names a function that an indirect call runs exactly where it is of the type at the call's first input; the
+/// function has the value's name and the types of the call.
+pub fn callees_are_typed()
+    ensures { CalleesAreTyped }
+{}
+
+/// Exactly the ops of which `hg_ops::takes_turn` says so take a turn each time that they fire: such a firing is stuck before
+/// anything happens, or takes one turn and then runs a node.
+pub fn calls_take_turns()
+    ensures { CallsTakeTurns }
+{}
+
+/// Where the constants of a graph and the arguments of a run have whole numbers of 64 bits alone, so have the values that the
+/// run returns. Constants of graphs in memory are such numbers by their type.
+pub fn numbers_fit()
+    ensures { NumbersFit }
+{}
+
 /// Whole numbers keep 64 bits with a sign, and are divided towards minus infinity.
 pub fn numbers_are()
     ensures { NumbersAre }
@@ -78,7 +103,19 @@ pub fn samples_run()
     ensures { SamplesRun }
 {}
 
-/// The four graphs are valid, and all but one are ordered: so the laws speak of something.
+/// These graphs are valid, and all but one of them are ordered: so the laws speak of something.
 pub fn samples_are_valid()
     ensures { SamplesAreValid }
+{}
+
+/// The runs of six small graphs with functions as values: one that is loaded and called, one that is called twice, one that
+/// is passed to a function, one that goes into the cases of a `Conditional`, one that a `Conditional` chooses, and two with
+/// the same types that are told apart by name. A seventh calls a function that hasn't the types of the call, and is stuck.
+pub fn function_samples_run()
+    ensures { FunctionSamplesRun }
+{}
+
+/// The first six of these graphs are valid and ordered.
+pub fn function_samples_are_sound()
+    ensures { FunctionSamplesAreSound }
 {}

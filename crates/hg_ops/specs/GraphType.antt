@@ -3,11 +3,13 @@
 use Rattle.std.specs.Prelude.{Bool, true, false, ◌||◌, List, [], ◌∷◌}
 
 mutual
-  -- A whole number, a qubit, or a Sum: one of several rows, each with values of its types.
+  -- A whole number, a qubit, a Sum: one of several rows, each with values of its types, or a function from the values of
+  -- one row to those of another.
   pub data GraphType : Type 0 where
     Int : GraphType
     Qubit : GraphType
     Sum : Rows → GraphType
+    Function : (ins outs : Row) → GraphType
 
   -- a list of types
   pub data Row : Type 0 where
@@ -44,16 +46,21 @@ sum_type rows = Sum (rows_of rows)
 abbrev pub tuple_type : List GraphType → GraphType
 tuple_type ts = sum_type (ts ∷ [])
 
+-- the functions that take these types and give those
+abbrev pub function_type : List GraphType → List GraphType → GraphType
+function_type ins outs = Function (row_of ins) (row_of outs)
+
 -- a truth value: row 0 for false, row 1 for true, both without values
 abbrev pub bool_type : GraphType
 bool_type = sum_type ([] ∷ [] ∷ [])
 
 abbrev mutual
-  -- a value of the type holds a qubit, or another value of it does: it has to be used exactly once
+  -- a value of the type holds a qubit, or another value of it does: it has to be used exactly once; no function holds one
   pub is_linear : GraphType → Bool
   is_linear Int = false
   is_linear Qubit = true
   is_linear (Sum rs) = rows_linear rs
+  is_linear (Function ins outs) = false
 
   pub row_linear : Row → Bool
   row_linear no_types = false

@@ -3,8 +3,6 @@ pub mod GraphType
 pub mod Names
 pub mod Op
 pub mod OpView
-pub mod PlainType
-pub mod TypeCode
-pub mod TypeFalls
-pub mod TypeSize
+pub mod SameType
 pub mod TypeView
+pub mod code

@@ -2,7 +2,7 @@
 use Rattle.std.specs.Prelude.{ℕ, ℤ, Bool, true, false, List, [], ◌∷◌, ◌++◌, map, slice_index_or}
 use Rattle.gp_base.specs.declared.event.GateName.{GateName}
 use Rattle.gp_base.specs.declared.event.GateName.TheVariants as name
-use Rattle.hg_ops.specs.GraphType.{GraphType, Int, Qubit, sum_type, tuple_type, bool_type}
+use Rattle.hg_ops.specs.GraphType.{GraphType, Int, Qubit, sum_type, tuple_type, bool_type, function_type}
 
 -- the types at some ports, in order
 abbrev pub Types : Type 0
@@ -113,7 +113,9 @@ pub data Op : Type 0 where
   TailLoop : (again leave rest : Types) → Op
   Tag : (rows : List Types) (tag : ℕ) → Op
   Call : (ins outs : Types) → Op
+  CallIndirect : (ins outs : Types) → Op
   LoadConstant : Op
+  LoadFunction : (ins outs : Types) → Op
   Ext : Extension → Op
 
 -- ---- Value ports: their types, in the order of the ports.
@@ -166,6 +168,7 @@ ins_of (Conditional rows ins outs) = sum_type rows ∷ ins
 ins_of (TailLoop again leave rest) = again ++ rest
 ins_of (Tag rows tag) = slice_index_or rows tag []
 ins_of (Call ins outs) = ins
+ins_of (CallIndirect ins outs) = function_type ins outs ∷ ins
 ins_of (Ext e) = extension_ins e
 ins_of _ = []
 
@@ -177,7 +180,9 @@ outs_of (Conditional rows ins outs) = outs
 outs_of (TailLoop again leave rest) = leave ++ rest
 outs_of (Tag rows tag) = sum_type rows ∷ []
 outs_of (Call ins outs) = outs
+outs_of (CallIndirect ins outs) = outs
 outs_of LoadConstant = Int ∷ []
+outs_of (LoadFunction ins outs) = function_type ins outs ∷ []
 outs_of (Ext e) = extension_outs e
 outs_of _ = []
 
@@ -196,6 +201,7 @@ other_inputs (DataflowBlock ins rows others) = ControlPort ∷ []
 other_inputs (ExitBlock types) = ControlPort ∷ []
 other_inputs (Call ins outs) = FunctionPort ∷ []
 other_inputs LoadConstant = ConstantPort ∷ []
+other_inputs (LoadFunction ins outs) = FunctionPort ∷ []
 other_inputs _ = []
 
 abbrev pub other_outputs : Op → List PortKind
@@ -249,7 +255,9 @@ is_operation (Conditional rows ins outs) = true
 is_operation (TailLoop again leave rest) = true
 is_operation (Tag rows tag) = true
 is_operation (Call ins outs) = true
+is_operation (CallIndirect ins outs) = true
 is_operation LoadConstant = true
+is_operation (LoadFunction ins outs) = true
 is_operation (Ext e) = true
 is_operation _ = false
 
@@ -277,9 +285,16 @@ is_extension_effect (ResultBool tag) = true
 is_extension_effect (Divide which) = true
 is_extension_effect _ = false
 
+-- the op takes a turn each time that it fires
+abbrev pub takes_turn : Op → Bool
+takes_turn (Call ins outs) = true
+takes_turn (CallIndirect ins outs) = true
+takes_turn _ = false
+
 abbrev pub is_effect : Op → Bool
 is_effect (Cfg ins outs) = true
 is_effect (TailLoop again leave rest) = true
 is_effect (Call ins outs) = true
+is_effect (CallIndirect ins outs) = true
 is_effect (Ext e) = is_extension_effect e
 is_effect _ = false

@@ -15,7 +15,7 @@ macro_rules! effects {
         [$($gate:ident $text:literal $qubits:literal $angles:literal,)*]
     ) => {
         match $op {
-            OpKind::Cfg { .. } | OpKind::TailLoop { .. } | OpKind::Call { .. } => true,
+            OpKind::Cfg { .. } | OpKind::TailLoop { .. } | OpKind::Call { .. } | OpKind::CallIndirect { .. } => true,
             $(OpKind::$ext { .. } => $effect,)*
             $(OpKind::$own { .. } => $own_effect,)*
             $(OpKind::$gate => true,)*

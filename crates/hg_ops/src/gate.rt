@@ -13,7 +13,7 @@ use std::alloc::{AllocError, Global};
 use std::marker::Model;
 
 /// A gate on `QUBITS` qubits with `ANGLES` angles. A contract sees it as its name.
-#[derive(Debug, Drop)]
+#[derive(Drop)]
 pub struct Gate<const QUBITS: usize, const ANGLES: usize> {
     name: GateName,
 }

@@ -1,10 +1,13 @@
 //! The types of values at ports.
 
+ghost use Rattle.std.specs.Prelude.{Decides, ◌≡◌, map};
+ghost use Rattle.hg_ops.specs.TypeView.{type_view};
+
 use std::alloc::{AllocError, Global};
 use std::marker::Model;
 
 /// The type of the value at a port of a graph.
-#[derive(Debug, Drop)]
+#[derive(Drop)]
 #[cycle(graph_type)]
 pub enum GraphType {
     /// A whole number of 64 bits with a sign.
@@ -13,24 +16,26 @@ pub enum GraphType {
     Qubit,
     /// One of several rows: its number, with values of its types.
     Sum(Rows),
+    /// A function, by its name, that takes values of one row and gives values of another.
+    Function(Row, Row),
 }
 
 /// A list of types, as of the values at the inputs of a node. A contract sees it as a list.
-#[derive(Debug, Drop)]
+#[derive(Drop)]
 #[cycle(graph_type)]
 pub struct Row {
     types: Vec<GraphType>,
 }
 
 /// A list of rows. A contract sees it as a list of lists.
-#[derive(Debug, Drop)]
+#[derive(Drop)]
 #[cycle(graph_type)]
 pub struct Rows {
     rows: Vec<Row>,
 }
 
 impl Model for Row {
-    ghost use Rattle.hg_ops.specs.TypeCode.{Types, coded_types};
+    ghost use Rattle.hg_ops.specs.code.TypeCode.{Types, coded_types};
 
     ghost Value = { Types };
 
@@ -40,11 +45,11 @@ impl Model for Row {
 
     ghost view = { row_view };
 
-    ghost use Rattle.hg_ops.specs.TypeSize.{row_size};
+    ghost use Rattle.hg_ops.specs.code.TypeSize.{row_size};
 
     ghost size = { row_size };
 
-    ghost use Rattle.hg_ops.specs.TypeFalls.{most_le-row_size};
+    ghost use Rattle.hg_ops.specs.code.TypeFalls.{most_le-row_size};
 
     ghost size_decreases = { λ a h. most_le-row_size a.types.items };
 }
@@ -52,7 +57,7 @@ impl Model for Row {
 impl Model for Rows {
     ghost use Rattle.std.specs.Prelude.{List};
     ghost use Rattle.std.specs.Coded.{coded_list};
-    ghost use Rattle.hg_ops.specs.TypeCode.{Types, coded_types};
+    ghost use Rattle.hg_ops.specs.code.TypeCode.{Types, coded_types};
 
     ghost Value = { List Types };
 
@@ -62,11 +67,11 @@ impl Model for Rows {
 
     ghost view = { rows_view };
 
-    ghost use Rattle.hg_ops.specs.TypeSize.{rows_size};
+    ghost use Rattle.hg_ops.specs.code.TypeSize.{rows_size};
 
     ghost size = { rows_size };
 
-    ghost use Rattle.hg_ops.specs.TypeFalls.{most_le-rows_size};
+    ghost use Rattle.hg_ops.specs.code.TypeFalls.{most_le-rows_size};
 
     ghost size_decreases = { λ a h. most_le-rows_size a.rows.items };
 }
@@ -144,15 +149,7 @@ impl Row {
     pub fn is_same(&self, other: &Row) -> bool
         ensures { Decides result (self.now ≡ other.now) }
     {
-        if self.types.len() != other.types.len() {
-            return false;
-        }
-        for k in 0..self.types.len() {
-            if !self.types[k].is_same(&other.types[k]) {
-                return false;
-            }
-        }
-        true
+        same_types(self.types.as_slice(), other.types.as_slice())
     }
 
     // Whether one of the types is linear.
@@ -167,6 +164,22 @@ impl Row {
         }
         false
     }
+}
+
+/// Whether two lists have the same types, place by place. Takes no memory.
+#[cycle(same)]
+pub fn same_types(ones: &[GraphType], others: &[GraphType]) -> bool
+    ensures { Decides result (map type_view ones.now ≡ map type_view others.now) }
+{
+    if ones.len() != others.len() {
+        return false;
+    }
+    for k in 0..ones.len() {
+        if !ones[k].is_same(&others[k]) {
+            return false;
+        }
+    }
+    true
 }
 
 impl Rows {
@@ -270,6 +283,9 @@ impl GraphType {
             GraphType::Int => Ok(GraphType::Int),
             GraphType::Qubit => Ok(GraphType::Qubit),
             GraphType::Sum(rows) => Ok(GraphType::Sum(rows.copy(alloc)?)),
+            GraphType::Function(ins, outs) => {
+                Ok(GraphType::Function(ins.copy(alloc)?, outs.copy(alloc)?))
+            }
         }
     }
 
@@ -281,18 +297,21 @@ impl GraphType {
         match (self, other) {
             (GraphType::Int, GraphType::Int) | (GraphType::Qubit, GraphType::Qubit) => true,
             (GraphType::Sum(rows), GraphType::Sum(others)) => rows.is_same(others),
+            (GraphType::Function(ins, outs), GraphType::Function(other_ins, other_outs)) => {
+                ins.is_same(other_ins) && outs.is_same(other_outs)
+            }
             _ => false,
         }
     }
 
     /// Whether a value of the type has to be used exactly once: the type is that of qubits, or a Sum with a linear
-    /// type in at least one of its rows. Takes no memory.
+    /// type in at least one of its rows. No function type is linear. Takes no memory.
     #[cycle(linear)]
     pub fn is_linear(&self) -> bool
         ensures { result ≡ is_linear (type_view self.now) }
     {
         match self {
-            GraphType::Int => false,
+            GraphType::Int | GraphType::Function(_, _) => false,
             GraphType::Qubit => true,
             GraphType::Sum(rows) => rows.is_linear(),
         }

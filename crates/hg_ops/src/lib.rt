@@ -12,16 +12,15 @@ pub mod op_kind;
 pub mod ports;
 pub mod signatures;
 mod tables;
+pub mod turn;
 
 pub use effect::is_effect;
 pub use ext_op::{ExtOp, name_of, op_of_name};
 pub use gate::{Gate, gate_op};
-pub use graph_type::{GraphType, Row, Rows};
+pub use graph_type::{GraphType, Row, Rows, same_types};
 pub use laws::{gates_keep_their_qubits, op_names_are_distinct};
 pub use linear::is_linear;
 pub use op_kind::OpKind;
 pub use ports::{input_count, output_count};
 pub use signatures::signature;
-
-#[cfg(test)]
-mod tests;
+pub use turn::takes_turn;

@@ -3,9 +3,9 @@
 use crate::graph_type::{Row, Rows};
 use gp_base::Name;
 
-/// What a node of a graph does. The ops up to `LoadConstant` are HUGR's own, the others are ops of extensions. A value
+/// What a node of a graph does. The ops up to `LoadFunction` are HUGR's own, the others are ops of extensions. A value
 /// port has a number, its place in the row of inputs or of outputs, counted from 0.
-#[derive(Debug, Drop)]
+#[derive(Drop)]
 pub enum OpKind {
     /// The root of a graph: its children are functions and constants.
     Module,
@@ -100,8 +100,22 @@ pub enum OpKind {
         /// The types of its results.
         outs: Row,
     },
+    /// Calls the function that its first input is.
+    CallIndirect {
+        /// The types of its arguments.
+        ins: Row,
+        /// The types of its results.
+        outs: Row,
+    },
     /// Gives the number of a `Const`.
     LoadConstant,
+    /// Gives a function as a value.
+    LoadFunction {
+        /// The types of the function's arguments.
+        ins: Row,
+        /// The types of the function's results.
+        outs: Row,
+    },
     /// Allocates a qubit.
     Alloc,
     /// Frees a qubit.

@@ -33,7 +33,10 @@ macro_rules! inputs {
             | OpKind::Const { .. }
             | OpKind::Input { .. }
             | OpKind::Case { .. } => 0,
-            OpKind::DataflowBlock { .. } | OpKind::ExitBlock { .. } | OpKind::LoadConstant => 1,
+            OpKind::DataflowBlock { .. }
+            | OpKind::ExitBlock { .. }
+            | OpKind::LoadConstant
+            | OpKind::LoadFunction { .. } => 1,
             OpKind::Output { types } => types.len(),
             OpKind::Dfg { ins, .. } => ins.len(),
             OpKind::Cfg { ins, .. } => ins.len(),
@@ -41,6 +44,7 @@ macro_rules! inputs {
             OpKind::TailLoop { again, rest, .. } => again.len() + rest.len(),
             OpKind::Tag { rows, tag } => row_len(rows, *tag),
             OpKind::Call { ins, .. } => ins.len() + 1,
+            OpKind::CallIndirect { ins, .. } => 1 + ins.len(),
             $(OpKind::$ext { .. } => count!($($in)*),)*
             $(OpKind::$own { .. } => 1,)*
             $(OpKind::$gate => $qubits + $angles,)*
@@ -67,7 +71,8 @@ macro_rules! outputs {
             OpKind::FuncDefn { .. }
             | OpKind::Const { .. }
             | OpKind::Tag { .. }
-            | OpKind::LoadConstant => 1,
+            | OpKind::LoadConstant
+            | OpKind::LoadFunction { .. } => 1,
             OpKind::Input { types } => types.len(),
             OpKind::Dfg { outs, .. } => outs.len(),
             OpKind::Cfg { outs, .. } => outs.len(),
@@ -75,6 +80,7 @@ macro_rules! outputs {
             OpKind::Conditional { outs, .. } => outs.len(),
             OpKind::TailLoop { leave, rest, .. } => leave.len() + rest.len(),
             OpKind::Call { outs, .. } => outs.len(),
+            OpKind::CallIndirect { outs, .. } => outs.len(),
             OpKind::Unpack { types } => types.len(),
             $(OpKind::$ext { .. } => count!($($out)*),)*
             $(OpKind::$gate => $qubits,)*

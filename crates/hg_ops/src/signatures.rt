@@ -1,10 +1,10 @@
 //! The types at the value ports of ops.
 
 ghost use Rattle.std.specs.Prelude.{◌≡◌, [], ◌∷◌, ◌++◌, map, slice_index_or, IfOk};
-ghost use Rattle.hg_ops.specs.GraphType.{sum_type, tuple_type};
+ghost use Rattle.hg_ops.specs.GraphType.{sum_type, tuple_type, function_type};
 ghost use Rattle.hg_ops.specs.Op as spec;
 ghost use Rattle.hg_ops.specs.OpView.{op_view};
-ghost use Rattle.hg_ops.specs.PlainType.{plain_type};
+ghost use Rattle.hg_ops.specs.code.PlainType.{plain_type, plain_types};
 ghost use Rattle.hg_ops.specs.TypeView.{type_view};
 
 use crate::gate::Gate;
@@ -21,6 +21,42 @@ enum Plain {
     Bool,
 }
 
+// A row of such types.
+#[derive(Clone, Copy)]
+enum PlainRow {
+    Empty,
+    Qubit,
+    Int,
+    Bool,
+    QubitAndBool,
+    TwoInts,
+    TwoBools,
+}
+
+macro_rules! plain {
+    () => {
+        PlainRow::Empty
+    };
+    (Qubit) => {
+        PlainRow::Qubit
+    };
+    (Int) => {
+        PlainRow::Int
+    };
+    (Bool) => {
+        PlainRow::Bool
+    };
+    (Qubit Bool) => {
+        PlainRow::QubitAndBool
+    };
+    (Int Int) => {
+        PlainRow::TwoInts
+    };
+    (Bool Bool) => {
+        PlainRow::TwoBools
+    };
+}
+
 macro_rules! rows_of {
     (
         [$alloc:ident $op:ident]
@@ -34,18 +70,20 @@ macro_rules! rows_of {
             | OpKind::Const { .. }
             | OpKind::DataflowBlock { .. }
             | OpKind::ExitBlock { .. }
-            | OpKind::Case { .. } => Ok((Row::new($alloc), Row::new($alloc))),
+            | OpKind::Case { .. } => plain_rows($alloc, PlainRow::Empty, PlainRow::Empty),
             OpKind::Input { types } => Ok((Row::new($alloc), types.copy($alloc)?)),
             OpKind::Output { types } => Ok((types.copy($alloc)?, Row::new($alloc))),
-            OpKind::Dfg { ins, outs } => Ok((ins.copy($alloc)?, outs.copy($alloc)?)),
-            OpKind::Cfg { ins, outs } => Ok((ins.copy($alloc)?, outs.copy($alloc)?)),
-            OpKind::Call { ins, outs } => Ok((ins.copy($alloc)?, outs.copy($alloc)?)),
+            OpKind::Dfg { ins, outs } => copies($alloc, ins, outs),
+            OpKind::Cfg { ins, outs } => copies($alloc, ins, outs),
+            OpKind::Call { ins, outs } => copies($alloc, ins, outs),
             OpKind::Conditional { rows, ins, outs } => Ok((sum_and($alloc, rows, ins)?, outs.copy($alloc)?)),
             OpKind::TailLoop { again, leave, rest } => Ok((joined($alloc, again, rest)?, joined($alloc, leave, rest)?)),
             OpKind::Tag { rows, tag } => Ok((row_at($alloc, rows, *tag)?, sum_row($alloc, rows.copy($alloc)?)?)),
-            OpKind::LoadConstant => plain_rows($alloc, &[], &[Plain::Int]),
+            OpKind::CallIndirect { ins, outs } => Ok((function_and($alloc, ins, outs)?, outs.copy($alloc)?)),
+            OpKind::LoadConstant => plain_rows($alloc, PlainRow::Empty, PlainRow::Int),
+            OpKind::LoadFunction { ins, outs } => Ok((Row::new($alloc), function_row($alloc, ins, outs)?)),
             OpKind::Unpack { types } => Ok((tuple_row($alloc, types)?, types.copy($alloc)?)),
-            $(OpKind::$ext { .. } => plain_rows($alloc, &[$(Plain::$in),*], &[$(Plain::$out),*]),)*
+            $(OpKind::$ext { .. } => plain_rows($alloc, plain!($($in)*), plain!($($out)*)),)*
             $(OpKind::$gate => Gate::<$qubits, $angles>::signature($alloc),)*
         }
     };
@@ -59,15 +97,37 @@ pub fn signature(alloc: Global, op: &OpKind) -> Result<(Row, Row), AllocError>
     ext_ops!(rows_of, alloc op)
 }
 
+// The same two rows.
+fn copies(alloc: Global, ins: &Row, outs: &Row) -> Result<(Row, Row), AllocError>
+    ensures ins { IfOk result (λ rows. rows.0 ≡ ins.now) }
+    ensures outs { IfOk result (λ rows. rows.1 ≡ outs.now) }
+{
+    Ok((ins.copy(alloc)?, outs.copy(alloc)?))
+}
+
 // Rows of types that have no rows to copy.
-fn plain_rows(alloc: Global, ins: &[Plain], outs: &[Plain]) -> Result<(Row, Row), AllocError>
-    ensures ins { IfOk result (λ rows. rows.0 ≡ map plain_type ins.now) }
-    ensures outs { IfOk result (λ rows. rows.1 ≡ map plain_type outs.now) }
+fn plain_rows(alloc: Global, ins: PlainRow, outs: PlainRow) -> Result<(Row, Row), AllocError>
+    ensures ins { IfOk result (λ rows. rows.0 ≡ plain_types ins) }
+    ensures outs { IfOk result (λ rows. rows.1 ≡ plain_types outs) }
 {
     Ok((plain_row(alloc, ins)?, plain_row(alloc, outs)?))
 }
 
-fn plain_row(alloc: Global, types: &[Plain]) -> Result<Row, AllocError>
+fn plain_row(alloc: Global, row: PlainRow) -> Result<Row, AllocError>
+    ensures { IfOk result (λ made. made ≡ plain_types row) }
+{
+    match row {
+        PlainRow::Empty => Ok(Row::new(alloc)),
+        PlainRow::Qubit => row_of(alloc, &[Plain::Qubit]),
+        PlainRow::Int => row_of(alloc, &[Plain::Int]),
+        PlainRow::Bool => row_of(alloc, &[Plain::Bool]),
+        PlainRow::QubitAndBool => row_of(alloc, &[Plain::Qubit, Plain::Bool]),
+        PlainRow::TwoInts => row_of(alloc, &[Plain::Int, Plain::Int]),
+        PlainRow::TwoBools => row_of(alloc, &[Plain::Bool, Plain::Bool]),
+    }
+}
+
+fn row_of(alloc: Global, types: &[Plain]) -> Result<Row, AllocError>
     ensures { IfOk result (λ row. row ≡ map plain_type types.now) }
 {
     let mut row = Row::new(alloc);
@@ -108,6 +168,24 @@ fn tuple_row(alloc: Global, types: &Row) -> Result<Row, AllocError>
     let mut rows = Rows::new(alloc);
     rows.push(types.copy(alloc)?)?;
     sum_row(alloc, rows)
+}
+
+// The row of a function type alone.
+fn function_row(alloc: Global, ins: &Row, outs: &Row) -> Result<Row, AllocError>
+    ensures { IfOk result (λ row. row ≡ function_type ins.now outs.now ∷ []) }
+{
+    let mut row = Row::new(alloc);
+    row.push(GraphType::Function(ins.copy(alloc)?, outs.copy(alloc)?))?;
+    Ok(row)
+}
+
+// A function type, and then the types that go into the function.
+fn function_and(alloc: Global, ins: &Row, outs: &Row) -> Result<Row, AllocError>
+    ensures { IfOk result (λ row. row ≡ function_type ins.now outs.now ∷ ins.now) }
+{
+    let mut row = function_row(alloc, ins, outs)?;
+    row.append_copy(alloc, ins)?;
+    Ok(row)
 }
 
 // A Sum, and then the types of a row.

@@ -1,3 +1,20 @@
-mod ThinParts
-mod ThinText
-mod Told
+pub mod Looks
+pub mod Parts
+pub mod Scans
+pub mod Told
+pub mod Counts
+pub mod Walks
+pub mod Lives
+pub mod Flags
+pub mod Kept
+pub mod Placing
+pub mod OrderScans
+pub mod Buffered
+pub mod Callees
+pub mod Found
+pub mod DueLists
+pub mod Elsewhere
+pub mod Following
+pub mod Framed
+pub mod Takers
+pub mod Arrivals

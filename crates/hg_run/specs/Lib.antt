@@ -1,2 +1,3 @@
-pub mod ThinRun
-pub mod ThinShape
+pub mod Entries
+pub mod Told
+pub mod code

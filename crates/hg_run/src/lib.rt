@@ -1,15 +1,29 @@
-//! Runs of program graphs, told line by line. So far only thin graphs are run: one function, `main`, in
-//! which one qubit passes through gates.
+//! Runs of program graphs over a stack of open regions.
 #![tactic(auto)]
 
+mod arithmetic;
+mod counted_set;
+mod due;
+mod entry;
 mod fault;
+mod firings;
+mod followers;
+mod functions;
+mod leaf;
+mod line_buffer;
+mod named;
+mod picking;
+mod qubits;
+mod reads;
 mod running;
-mod shape;
+mod shapes;
+mod state;
+mod steps;
+mod tables;
+mod tell_fault;
 mod telling;
+mod value;
+mod waiting;
 
 pub use fault::RunFault;
-pub use running::run_thin;
-pub use shape::is_thin;
-
-#[cfg(test)]
-mod tests;
+pub use named::run;

@@ -1,68 +1,230 @@
-//! The run of thin graphs.
+//! Whole runs.
 
-ghost use Rattle.std.specs.Prelude.{◌≡◌, ◌≢◌, ◌≤◌, OnOk, OnErr, IsErrOf};
+ghost use Rattle.std.specs.Prelude.{◌≡◌, ◌≢◌, ◌≤◌, ◌⊎◌, [], Ok, OnOk, OnErr, IfOk, IsErrOf};
 ghost use Rattle.std.specs.List.{flat_map};
+ghost use Rattle.gp_base.specs.EventText.{event_line};
 ghost use Rattle.gp_base.specs.Outside.{Rose, Wrote, WrotePart};
-ghost use Rattle.hg_ops.specs.OpView.{op_view};
-ghost use Rattle.hg_run.specs.ThinRun.{IsThinGraph, main_run, text_of_run, event_of, op_line, node_line};
-ghost use Rattle.hg_run.specs.declared.fault.RunFault.TheVariants as fault;
+ghost use Rattle.gp_base.specs.Run.{Stuck};
+ghost use Rattle.hg_run.specs.code.Stepped.{FramesKeep};
+ghost use Rattle.hg_run.specs.code.TablesView.{HasTables};
+ghost use Rattle.hg_run.specs.code.StateView.{halt_view, listed};
+ghost use Rattle.hg_run.specs.Told.{entry_run, trace_of, EndsAs, IsEndOfStop};
+ghost use Rattle.hg_run.specs.code.Buffering.{Grown, NoneLost, Passed, PassedPart};
+ghost use Rattle.hg_run.specs.code.Left.{IsNotStuck, IsEntry, left_trace, out_of};
+ghost use Rattle.hg_run.specs.declared.tell_fault.TellFault.TheVariants as fault;
 
-use crate::fault::RunFault;
+use crate::line_buffer::LineBuffer;
+use crate::state::{Frame, Halt, Machine, Stepped, Task};
+use crate::steps::step;
+use crate::tables::{Tables, tables_of};
+use crate::tell_fault::TellFault;
 use crate::telling::{write_end, write_event};
-use gp_base::{End, Event, Failed, GateName, Sink};
-use hg_graph::{Graph, NodeId};
-use hg_ops::OpKind;
-use std::alloc::Global;
+use crate::value::Values;
+use gp_base::{End, Event, Sink};
+use hg_graph::NodeId;
+use hg_valid::Valid;
+use std::alloc::{AllocError, Global};
+use std::collections::VecDeque;
 
-// What an op does to qubit 0.
-fn event_of(op: &OpKind) -> Option<Event>
-    ensures { result ≡ event_of (op_view op.now) }
+// The end of a run that stops.
+fn end_of(halt: Halt) -> End
+    requires { halt_view halt ≢ Stuck }
+    ensures { IsEndOfStop (halt_view halt) result }
 {
-    match op {
-        OpKind::Alloc => Some(Event::Alloc(0)),
-        OpKind::H => Some(Event::Gate1(GateName::H, 0)),
-        OpKind::X => Some(Event::Gate1(GateName::X, 0)),
-        OpKind::Free => Some(Event::Free(0)),
-        _ => None,
+    match halt {
+        Halt::TurnsUsed => End::TurnsUsed,
+        Halt::OutcomesUsed => End::OutcomesUsed,
+        Halt::DivisionByZero => End::DivisionByZero,
+        Halt::Stuck => unreachable!(),
     }
 }
 
-// Writes the line of an op's event, where it has one.
-fn write_op<S: Sink>(sink: &mut S, op: &OpKind) -> Result<(), Failed>
-    ensures ok { OnOk result (Wrote (S.bytes sink.old) (S.bytes sink.new) (op_line (op_view op.now))) }
-    ensures err { OnErr result (WrotePart (S.bytes sink.old) (S.bytes sink.new) (op_line (op_view op.now))) }
-    ensures cause { OnErr result (Rose (S.faults sink.old) (S.faults sink.new)) }
-    ensures count { S.faults sink.old ≤ S.faults sink.new }
-{
-    match event_of(op) {
-        Some(event) => write_event(sink, &event),
-        None => Ok(()),
-    }
-}
-
-// Writes the lines of the nodes' events, in the order of the nodes.
-fn write_nodes<S: Sink>(sink: &mut S, graph: &Graph) -> Result<(), Failed>
-    ensures ok { OnOk result (Wrote (S.bytes sink.old) (S.bytes sink.new) (flat_map node_line graph.now.nodes)) }
-    ensures err { OnErr result (WrotePart (S.bytes sink.old) (S.bytes sink.new) (flat_map node_line graph.now.nodes)) }
-    ensures cause { OnErr result (Rose (S.faults sink.old) (S.faults sink.new)) }
-    ensures count { S.faults sink.old ≤ S.faults sink.new }
-{
-    for number in 0..graph.node_count() {
-        write_op(sink, graph.op(NodeId(number)))?;
-    }
-    Ok(())
-}
-
-/// Runs `main` of a thin graph, and writes the line of each event as it comes, and then the line of the
-/// run's end. Takes no memory; the allocator is for graphs that aren't thin. Fails only where the sink
-/// fails; then the sink has a part from the front of the text.
-pub fn run_thin<S: Sink>(_alloc: Global, graph: &Graph, sink: &mut S) -> Result<(), RunFault>
-    requires { IsThinGraph graph.now }
-    ensures ok { OnOk result (Wrote (S.bytes sink.old) (S.bytes sink.new) (text_of_run (main_run graph.now))) }
-    ensures err { OnErr result (WrotePart (S.bytes sink.old) (S.bytes sink.new) (text_of_run (main_run graph.now))) }
+// Writes the line of an event, where there is one.
+#[tactic(auto, using(crate::proofs::Buffered::grown_none))]
+fn write_one<S: Sink>(
+    buffer: &mut LineBuffer,
+    sink: &mut S,
+    event: Option<Event>,
+) -> Result<(), TellFault>
+    ensures ok { OnOk result
+        (Passed (S.bytes sink.old) buffer.old (S.bytes sink.new) buffer.new
+        (flat_map event_line (listed event))) }
+    ensures err { OnErr result
+        (PassedPart (S.bytes sink.old) buffer.old (S.bytes sink.new) buffer.new
+        (flat_map event_line (listed event))) }
+    ensures grown { Grown (S.bytes sink.old) (S.bytes sink.new) }
     ensures cause { IsErrOf result fault.WriteFault → Rose (S.faults sink.old) (S.faults sink.new) }
-    ensures memory { result ≢ Err fault.Memory }
+    ensures count { S.faults sink.old ≤ S.faults sink.new }
 {
-    write_nodes(sink, graph)?;
-    Ok(write_end(sink, End::Returned)?)
+    match event {
+        None => Ok(()),
+        Some(event) => write_event(buffer, sink, &event),
+    }
+}
+
+// Runs what is left, and tells it.
+fn tell<S: Sink>(
+    alloc: Global,
+    graph: &Valid,
+    tables: &Tables<'_>,
+    mut task: Task,
+    mut frames: Vec<Frame>,
+    mut machine: Machine,
+    buffer: &mut LineBuffer,
+    sink: &mut S,
+) -> Result<End, TellFault>
+    requires tables { HasTables graph.now tables.now }
+    requires keep { FramesKeep graph.now frames.items }
+    requires run { IsNotStuck (out_of graph.now task frames.items machine []) }
+    ensures ok { OnOk result
+        (Passed (S.bytes sink.old) buffer.old (S.bytes sink.new) buffer.new
+        (left_trace graph.now task frames.items machine)) }
+    ensures end { IfOk result (λ how. EndsAs (out_of graph.now task frames.items machine []) how) }
+    ensures err { OnErr result
+        (PassedPart (S.bytes sink.old) buffer.old (S.bytes sink.new) buffer.new
+        (left_trace graph.now task frames.items machine)) }
+    ensures grown { Grown (S.bytes sink.old) (S.bytes sink.new) }
+    ensures cause { IsErrOf result fault.WriteFault → Rose (S.faults sink.old) (S.faults sink.new) }
+    ensures count { S.faults sink.old ≤ S.faults sink.new }
+{
+    loop {
+        match step(
+            alloc,
+            graph.graph(),
+            tables,
+            task,
+            &mut frames,
+            &mut machine,
+        )? {
+            None => {
+                write_end(buffer, sink, End::Returned)?;
+                return Ok(End::Returned);
+            }
+            Some(Stepped::Halts(halt)) => {
+                let end = end_of(halt);
+                write_end(buffer, sink, end)?;
+                return Ok(end);
+            }
+            Some(Stepped::Goes(next, event)) => {
+                write_one(buffer, sink, event)?;
+                task = next;
+            }
+        }
+    }
+}
+
+// Writes what is still kept after a run that was told so far.
+#[tactic(auto, using(crate::proofs::Buffered::grown_none))]
+fn finish<S: Sink>(
+    told: Result<End, TellFault>,
+    buffer: &mut LineBuffer,
+    sink: &mut S,
+) -> Result<End, TellFault>
+    ensures whole { NoneLost (S.bytes sink.old) buffer.old (S.bytes sink.new) buffer.new }
+    ensures none { OnOk result (buffer.new ≡ []) }
+    ensures end { IfOk result (λ how. told ≡ Ok how) }
+    ensures grown { Grown (S.bytes sink.old) (S.bytes sink.new) }
+    ensures cause { IsErrOf result fault.WriteFault
+        → IsErrOf told fault.WriteFault ⊎ Rose (S.faults sink.old) (S.faults sink.new) }
+    ensures count { S.faults sink.old ≤ S.faults sink.new }
+{
+    match told {
+        Ok(end) => {
+            buffer.flush(sink)?;
+            Ok(end)
+        }
+        Err(TellFault::WriteFault) => Err(TellFault::WriteFault),
+        Err(TellFault::Memory) => {
+            let _ = buffer.flush(sink);
+            Err(TellFault::Memory)
+        }
+    }
+}
+
+// Runs what is left, and tells it whole.
+fn tell_whole<S: Sink>(
+    alloc: Global,
+    graph: &Valid,
+    tables: &Tables<'_>,
+    task: Task,
+    frames: Vec<Frame>,
+    machine: Machine,
+    sink: &mut S,
+) -> Result<End, TellFault>
+    requires tables { HasTables graph.now tables.now }
+    requires keep { FramesKeep graph.now frames.items }
+    requires run { IsNotStuck (out_of graph.now task frames.items machine []) }
+    ensures ok { OnOk result (Wrote (S.bytes sink.old) (S.bytes sink.new)
+        (left_trace graph.now task frames.items machine)) }
+    ensures end { IfOk result (λ how. EndsAs (out_of graph.now task frames.items machine []) how) }
+    ensures err { OnErr result (WrotePart (S.bytes sink.old) (S.bytes sink.new)
+        (left_trace graph.now task frames.items machine)) }
+    ensures cause { IsErrOf result fault.WriteFault → Rose (S.faults sink.old) (S.faults sink.new) }
+{
+    let mut buffer = LineBuffer::new(alloc);
+    let told = tell(
+        alloc,
+        graph,
+        tables,
+        task,
+        frames,
+        machine,
+        &mut buffer,
+        sink,
+    );
+    finish(told, &mut buffer, sink)
+}
+
+// Outcomes in a queue.
+fn outcome_queue(alloc: Global, outcomes: &[bool]) -> Result<VecDeque<bool>, AllocError>
+    ensures { IfOk result (λ queue. queue.items ≡ outcomes.now) }
+{
+    let mut queue = VecDeque::new(alloc);
+    for k in 0..outcomes.len() {
+        queue.push_back(outcomes[k])?;
+    }
+    Ok(queue)
+}
+
+// Picks in a queue.
+fn pick_queue(alloc: Global, picks: &[u32]) -> Result<VecDeque<u32>, AllocError>
+    ensures { IfOk result (λ queue. queue.items ≡ picks.now) }
+{
+    let mut queue = VecDeque::new(alloc);
+    for k in 0..picks.len() {
+        queue.push_back(picks[k])?;
+    }
+    Ok(queue)
+}
+
+/// Runs a function without inputs under a list of picks, and writes the line of each event and then
+/// the line of the run's end.
+pub(crate) fn run_entry<S: Sink>(
+    alloc: Global,
+    graph: &Valid,
+    entry: NodeId,
+    turns: u64,
+    outcomes: &[bool],
+    picks: &[u32],
+    sink: &mut S,
+) -> Result<End, TellFault>
+    requires { IsEntry graph.now entry.0 }
+    ensures ok { OnOk result (Wrote (S.bytes sink.old) (S.bytes sink.new)
+        (trace_of (entry_run graph.now entry.0 turns outcomes.now picks.now))) }
+    ensures end { IfOk result
+        (λ how. EndsAs (entry_run graph.now entry.0 turns outcomes.now picks.now) how) }
+    ensures err { OnErr result (WrotePart (S.bytes sink.old) (S.bytes sink.new)
+        (trace_of (entry_run graph.now entry.0 turns outcomes.now picks.now))) }
+    ensures cause { IsErrOf result fault.WriteFault → Rose (S.faults sink.old) (S.faults sink.new) }
+{
+    let _graph = graph.graph();
+    let machine = Machine {
+        flags: Vec::new(alloc),
+        turns,
+        outcomes: outcome_queue(alloc, outcomes)?,
+        picks: pick_queue(alloc, picks)?,
+    };
+    let task = Task::Enter(entry, Values::new(alloc));
+    let tables = tables_of(alloc, graph.graph())?;
+    tell_whole(alloc, graph, &tables, task, Vec::new(alloc), machine, sink)
 }

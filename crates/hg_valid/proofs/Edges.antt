@@ -8,9 +8,9 @@ use Rattle.gp_base.specs.Membership.{In}
 use Rattle.hg_graph.specs.Graph.{Graph, Link, Ports, Order, IsGraph, LinkIsWithin, op_at}
 use Rattle.hg_graph.specs.Valid.{Edge, along_value, along_order, Path, edge, joined}
 use Rattle.hg_laws.proofs.Children.{get_in}
-use Rattle.hg_paths.specs.Walks.{row, Leads, Walk, once, first, IsClosed}
-use Rattle.hg_paths.proofs.WalkLemmas.{walk_on}
-use Rattle.hg_valid.specs.Successors.{Joins, AreSuccessors, HasEdges}
+use Rattle.walks.specs.Walks.{row, Leads, Walk, once, first, IsClosed}
+use Rattle.walks.proofs.WalkLemmas.{walk_on}
+use Rattle.hg_valid.specs.code.Successors.{Joins, AreSuccessors, HasEdges}
 
 in_left : {A : Type 0} (x : A) (xs ys : List A) → In x xs → In x (xs ++ ys)
 in_left x [] ys i = absurd i

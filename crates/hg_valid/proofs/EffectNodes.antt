@@ -6,8 +6,8 @@ use Rattle.hg_ops.specs.Op.{is_effect}
 use Rattle.hg_graph.specs.Graph.{Graph, op_at, parent_at}
 use Rattle.hg_graph.specs.Ordered.{HasEffect, own, inside}
 use Rattle.hg_laws.proofs.Children.{child_is, is_child}
-use Rattle.hg_paths.specs.Chains.{is_marked}
-use Rattle.hg_valid.specs.Effects.{AreEffects, AreCarried}
+use Rattle.walks.specs.Counts.{is_marked}
+use Rattle.hg_valid.specs.code.Effects.{AreEffects, AreCarried}
 
 -- the marks of ops
 pub own_marks : (g : Graph) (marks : List Bool) → length marks ≡ length g.nodes → ((n : ℕ) → n < length g.nodes → is_marked marks n ≡ is_effect (op_at g n)) → AreCarried g (length g.nodes) marks

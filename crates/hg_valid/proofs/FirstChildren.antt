@@ -4,7 +4,7 @@ use Rattle.hg_ops.specs.Op.{Op, Types, Input, Output, ExitBlock, inner_ins, inne
 use Rattle.gp_base.specs.Membership.{In}
 use Rattle.hg_graph.specs.Graph.{Graph, op_at, children}
 use Rattle.hg_graph.specs.Valid.{HasBoundary, HasBlocks, is_boundary, is_exit}
-use Rattle.hg_valid.specs.Parts.{NoOtherBoundary, NoOtherExit, IsPairOf, IsEntryOf, AreFirstBlocks}
+use Rattle.hg_valid.specs.code.Parts.{NoOtherBoundary, NoOtherExit, IsPairOf, IsEntryOf, AreFirstBlocks}
 use Rattle.hg_laws.proofs.Children.{get_in}
 use Rattle.hg_valid.proofs.ByPlace.{in_get, two_first}
 

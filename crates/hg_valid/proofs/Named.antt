@@ -12,7 +12,7 @@ use Rattle.std.proofs.lemmas.Slice.Eq.{bytes_eq-Decides}
 use Rattle.hg_ops.specs.Op.{Op, FuncDefn}
 use Rattle.hg_graph.specs.Graph.{Graph, op_at}
 use Rattle.hg_graph.specs.Valid.{Keeps, KeepsName, HasNewName, Names, name_of}
-use Rattle.hg_valid.specs.Broken.{IsFirstToBreak}
+use Rattle.hg_valid.specs.code.Broken.{IsFirstToBreak}
 
 -- the names of the functions among the first n nodes are those that the test finds, and no two are the same
 pub record AreNamed (g : Graph) (n : ℕ) (has : List ℕ → Bool) : Type 0 where

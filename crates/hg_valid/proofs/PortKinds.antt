@@ -1,10 +1,10 @@
 -- The kinds of ports.
 use Rattle.std.proofs.Common.{◌≡◌, ℕ, zero, suc, ◌-◌, ◌<◌, ◌≤◌, true, List, [], ◌∷◌, ◌++◌, length, map, Some, None, slice_get, refl, sym, ap, subst, arith, ◌∙◌}
 use Rattle.hg_ops.specs.GraphType.{GraphType}
-use Rattle.hg_ops.specs.Op.{Op, Types, FuncDefn, Const, DataflowBlock, ExitBlock, Call, LoadConstant, PortKind, ValuePort, ControlPort, ins_of, outs_of, other_inputs, other_outputs, input_ports}
+use Rattle.hg_ops.specs.Op.{Op, Types, FuncDefn, Const, DataflowBlock, ExitBlock, Call, LoadConstant, LoadFunction, PortKind, ValuePort, ControlPort, ins_of, outs_of, other_inputs, other_outputs, input_ports}
 use Rattle.hg_graph.specs.Graph.{Graph, Port, op_at}
 use Rattle.hg_graph.specs.Valid.{JoinsPorts, is_local}
-use Rattle.hg_valid.specs.OtherKinds.{SameKind}
+use Rattle.hg_valid.specs.code.OtherKinds.{SameKind}
 
 -- ---- value ports and those behind them
 pub value_at : (ts : Types) (rest : List PortKind) (p : ℕ) (t : GraphType) → slice_get ts p ≡ Some t → slice_get (map ValuePort ts ++ rest) p ≡ Some (ValuePort t)
@@ -32,6 +32,8 @@ no_value_in t (Call i o) zero e = cc
 no_value_in t (Call i o) (suc p) e = cc
 no_value_in t LoadConstant zero e = cc
 no_value_in t LoadConstant (suc p) e = cc
+no_value_in t (LoadFunction i o) zero e = cc
+no_value_in t (LoadFunction i o) (suc p) e = cc
 no_value_in t _ p e = cc
 
 no_value_control : (t : GraphType) (rows : List Types) (p : ℕ) → slice_get (map (λ row. ControlPort) rows) p ≡ Some (ValuePort t) → ⊥

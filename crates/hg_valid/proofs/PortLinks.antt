@@ -5,10 +5,10 @@ use Rattle.std.proofs.lemmas.List.{length-append, append_assoc}
 use Rattle.gp_base.specs.Membership.{In}
 use Rattle.hg_graph.specs.Graph.{Graph, Link, Ports, Order, Port, IsGraph, LinkIsWithin, is_port, feeder, taker, links_into, links_from}
 use Rattle.hg_graph.specs.NodeIndex.{numbers_where, numbers_into, numbers_from, is_into, is_from}
-use Rattle.hg_graph.specs.Sources.{source_of}
+use Rattle.hg_graph.specs.code.Sources.{source_of}
 use Rattle.hg_graph.proofs.Readers.{first-feeder}
 use Rattle.hg_laws.proofs.Children.{get_in}
-use Rattle.hg_valid.specs.Parts.{target_of, IsOnlySource, IsOnlyTarget}
+use Rattle.hg_valid.specs.code.Parts.{target_of, IsOnlySource, IsOnlyTarget}
 
 -- ---- how many
 one_more : (t : Bool) (k n : ℕ) (xs : List ℕ) → length xs ≡ n → length (cond t (k ∷ xs) xs) ≡ cond t 1 0 + n

@@ -1,9 +1,9 @@
 -- Whether effect nodes have different counts, region by region, and what follows.
-use Rattle.std.proofs.Common.{◌≡◌, ◌≢◌, inl, inr, ⊎_elim, ℕ, zero, suc, ◌+◌, ◌-◌, ◌<◌, ◌≤◌, Bool, true, false, cond, List, [], ◌∷◌, length, get_or, set, Some, sym, ap, subst, refl, ◌∙◌, arith}
+use Rattle.std.proofs.Common.{◌≡◌, ◌≢◌, inl, inr, ⊎_elim, ℕ, zero, suc, ◌+◌, ◌-◌, ◌<◌, ◌≤◌, Bool, true, false, List, [], ◌∷◌, length, get_or, set, Some, sym, ap, subst, refl, ◌∙◌, arith}
 use Rattle.std.specs.Prelude.{slice_get, IsTrue, MatchBool, ◌↔◌, Result, Ok, Err, IfOk}
 use Rattle.std.specs.Bool.{OnTrue}
 use Rattle.std.proofs.lemmas.Bool.{cases_eq, cases_lt, false≢true}
-use Rattle.std.proofs.lemmas.List.{get_or-set_same, get_or-set_other, get_or_past}
+use Rattle.std.proofs.lemmas.List.{get_or-set_same, get_or-set_other}
 use Rattle.hg_ops.specs.Op as op
 use Rattle.hg_ops.specs.Op.{Op, is_effect, is_dataflow_container, fires}
 use Rattle.gp_base.specs.Membership.{In}
@@ -15,13 +15,15 @@ use Rattle.hg_laws.proofs.Known.{Known, known}
 use Rattle.hg_laws.proofs.Wires.{edge_cases}
 use Rattle.hg_laws.proofs.Main.{picks_change_nothing_lem}
 use Rattle.hg_laws.proofs.Children.{child_is, is_child, kid_is, is_kid}
-use Rattle.hg_paths.specs.Walks.{Walk, once, first, IsClosed}
-use Rattle.hg_paths.specs.Chains.{is_marked, mark, AreCounted, HasCycle}
-use Rattle.hg_paths.proofs.WalkLemmas.{place_in, in_place, walk_on}
-use Rattle.hg_valid.specs.Successors.{AreSuccessors}
-use Rattle.hg_valid.specs.Effects.{AreEffects}
+use Rattle.walks.specs.Walks.{Walk, IsClosed}
+use Rattle.walks.specs.Counts.{is_marked, AreCounted}
+use Rattle.walks.specs.Cycles.{HasCycle}
+use Rattle.walks.proofs.CountLemmas.{own_mark, falls_from, next_marked, marked_one}
+use Rattle.walks.proofs.WalkLemmas.{place_in, in_place, walk_on}
+use Rattle.hg_valid.specs.code.Successors.{AreSuccessors}
+use Rattle.hg_valid.specs.code.Effects.{AreEffects}
 use Rattle.hg_valid.specs.SameRuns.{RunsAreSame}
-use Rattle.hg_valid.specs.Regions.{AreApart, HaveSame, HasSame, ApartBelow, IsSeen, child_at}
+use Rattle.hg_valid.specs.code.Regions.{AreApart, HaveSame, HasSame, ApartBelow, IsSeen, child_at}
 use Rattle.hg_valid.proofs.Edges.{path_of, walk_of, closed_successors}
 
 -- ---- the children of a region
@@ -199,40 +201,12 @@ child_on_path g K c a b f i p =
       | inr nz ↦ let h : parent_at g b < b = K.rises b (omega arith) l in omega arith
     ])
 
--- ---- counts along walks
-
-never_rises : (lists : List (List ℕ)) → IsClosed lists → (marks : List Bool) (counts : List ℕ) → AreCounted lists marks counts → (a b : ℕ) → a < length lists → Walk lists a b → get_or counts b 0 ≤ get_or counts a 0
-never_rises lists C marks counts A a b l (once i) = let h : mark marks a + get_or counts b 0 ≤ get_or counts a 0 = (A.each a l).falls b i in omega arith
-never_rises lists C marks counts A a b l (first i w) =
-    let h = (A.each a l).falls _ i in
-    let k = never_rises lists C marks counts A _ b (C.within a _ i) w in
-    omega arith
-
-marked_one : (marks : List Bool) (a : ℕ) → is_marked marks a ≡ true → mark marks a ≡ 1
-marked_one marks a m = ap (λ b. cond b 1 0) m
-
-falls_from : (lists : List (List ℕ)) → IsClosed lists → (marks : List Bool) (counts : List ℕ) → AreCounted lists marks counts → (a b : ℕ) → a < length lists → is_marked marks a ≡ true → Walk lists a b → get_or counts b 0 < get_or counts a 0
-falls_from lists C marks counts A a b l m (once i) =
-    let u = marked_one marks a m in
-    let h : mark marks a + get_or counts b 0 ≤ get_or counts a 0 = (A.each a l).falls b i in
-    omega arith
-falls_from lists C marks counts A a b l m (first i w) =
-    let u = marked_one marks a m in
-    let h = (A.each a l).falls _ i in
-    let k = never_rises lists C marks counts A _ b (C.within a _ i) w in
-    omega arith
-
-pub few_counts : (lists : List (List ℕ)) (marks : List Bool) (counts : List ℕ) → AreCounted lists marks counts → (n : ℕ) → get_or counts n 0 ≤ length lists
-few_counts lists marks counts A n = elim (cases_lt n (length lists)) [
-  | inl l ↦ (A.each n l).few
-  | inr l ↦ let e : length counts ≡ length lists = A.count in let z : get_or counts n 0 ≡ 0 = get_or_past counts n 0 (omega arith) in omega arith
-]
-
 -- ---- what follows
 
 record IsRegion (g : Graph) (lists : List (List ℕ)) (marks : List Bool) (counts : List ℕ) (c : ℕ) : Type 0 where
   known : Known g
   successors : AreSuccessors g lists
+  closed : IsClosed lists
   effects : AreEffects g marks
   counted : AreCounted lists marks counts
   container : is_dataflow_container (op_at g c) ≡ true
@@ -250,21 +224,21 @@ leads_down g lists marks counts c R (suc n) a b M N l h =
     let e : length lists ≡ length g.nodes = R.successors.count in
     let la : a < length g.nodes = (child_is g c a M.child).0 in
     let lb : b < length g.nodes = (child_is g c b N.child).0 in
-    let ub : 1 ≤ get_or counts b 0 = let u = marked_one marks b N.marked in let o = (R.counted.each b (omega arith)).own in omega arith in
+    let ub : 1 ≤ get_or counts b 0 = let u = marked_one marks b N.marked in let o = own_mark lists marks counts R.counted b (omega arith) in omega arith in
     let k : ℕ = get_or counts a 0 - 2 in
     let two : get_or counts a 0 ≡ suc (suc k) = omega arith in
-    let w = (R.counted.each a (omega arith)).next M.marked k two in
-    let x : ℕ = w.0 in
+    let w = next_marked lists R.closed marks counts R.counted a k (omega arith) M.marked two in
+    let x : ℕ = w.node in
     let X : IsMember g c marks x = record {
-      child = child_on_path g R.known c a x R.container M.child (path_of g lists R.successors a x w.2);
-      marked = w.1.marked;
+      child = child_on_path g R.known c a x R.container M.child (path_of g lists R.successors a x w.reached);
+      marked = w.marked;
     } in
-    let cx : get_or counts x 0 ≡ suc k = w.1.count_is in
+    let cx : get_or counts x 0 ≡ suc k = w.count_is in
     elim (cases_eq b x) [
-      | inl f ↦ subst (λ (m : ℕ). Walk lists a m) (sym f) w.2
+      | inl f ↦ subst (λ (m : ℕ). Walk lists a m) (sym f) w.reached
       | inr ne ↦
           let nc : get_or counts b 0 ≢ get_or counts x 0 = R.apart.differ b x N.child X.child N.marked X.marked ne in
-          walk_on lists a x b w.2 (leads_down g lists marks counts c R n x b X N (omega arith) (omega arith))
+          walk_on lists a x b w.reached (leads_down g lists marks counts c R n x b X N (omega arith) (omega arith))
     ]
 
 pub apart_ordered : (g : Graph) → IsValid g → (lists : List (List ℕ)) → AreSuccessors g lists → (marks : List Bool) → AreEffects g marks → (counts : List ℕ) → AreCounted lists marks counts
@@ -278,7 +252,7 @@ apart_ordered g V lists S marks E counts A B c a b f i j ha hb ne =
     let ma : is_marked marks a ≡ true = E.all a ca.0 ha in
     let mb : is_marked marks b ≡ true = E.all b cb.0 hb in
     let lc : c < length g.nodes = subst (λ (n : ℕ). n < length g.nodes) ca.1 (V.graph.parents a ca.0) in
-    let R : IsRegion g lists marks counts c = record { known = K; successors = S; effects = E; counted = A; container = f; apart = B.each c lc f } in
+    let R : IsRegion g lists marks counts c = record { known = K; successors = S; closed = closed_successors g V.graph lists S; effects = E; counted = A; container = f; apart = B.each c lc f } in
     let M : IsMember g c marks a = record { child = ia; marked = ma } in
     let N : IsMember g c marks b = record { child = ib; marked = mb } in
     let nc : get_or counts a 0 ≢ get_or counts b 0 = R.apart.differ a b ia ib ma mb ne in

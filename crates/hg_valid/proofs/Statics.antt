@@ -3,7 +3,7 @@ use Rattle.std.proofs.Common.{◌≡◌, ℕ, Some, length, sym, ap, subst, ◌�
 use Rattle.hg_ops.specs.Op.{Types, ins_of}
 use Rattle.hg_graph.specs.Graph.{Graph, Port, op_at, parent_at, feeder, static_input}
 use Rattle.hg_graph.specs.Valid.{HasCallee, HasConstant, IsAncestor}
-use Rattle.hg_valid.specs.Parts.{IsFunctionOf, IsOnlySource}
+use Rattle.hg_valid.specs.code.Parts.{IsFunctionOf, IsOnlySource}
 
 -- the static input by its number
 pub static_at : (g : Graph) (n p : ℕ) → p ≡ length (ins_of (op_at g n)) → record { node = n; index = p } ≡ static_input g n

@@ -6,10 +6,10 @@ use Rattle.hg_graph.specs.Graph.{Graph, Link, Ports, Order, IsGraph, LinkIsWithi
 use Rattle.hg_graph.specs.Valid.{Keeps, is_local}
 use Rattle.hg_ops.specs.Op.{input_ports}
 use Rattle.std.specs.Prelude.{slice_get}
-use Rattle.hg_valid.specs.Broken.{FirstToBreak}
-use Rattle.hg_valid.specs.LinkRules.{LinkKeeps, IsLeastTarget, LeastTarget, lesser}
-use Rattle.hg_valid.specs.Parts.{target}
-use Rattle.hg_valid.specs.RuleView.{link_rule_view}
+use Rattle.hg_valid.specs.code.Broken.{FirstToBreak}
+use Rattle.hg_valid.specs.code.LinkRules.{LinkKeeps, IsLeastTarget, LeastTarget, lesser}
+use Rattle.hg_valid.specs.code.Parts.{target}
+use Rattle.hg_valid.specs.code.RuleView.{link_rule_view}
 use Rattle.hg_valid.specs.declared.rule.LinkRule.{LinkRule}
 use Rattle.hg_valid.specs.declared.rule.LinkRule.TheVariants.{Joins, SameParent}
 use Rattle.hg_valid.proofs.ByPlace.{In-append, In-front, In-last}

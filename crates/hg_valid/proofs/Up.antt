@@ -3,8 +3,8 @@ use Rattle.std.proofs.Common.{◌≡◌, ◌⊎◌, inl, inr, ℕ, suc, ◌<◌,
 use Rattle.std.proofs.lemmas.Bool.{cases_lt}
 use Rattle.hg_graph.specs.Graph.{Graph, IsGraph, parent_at}
 use Rattle.hg_graph.specs.Valid.{IsAncestor, of_child, of_further, Places}
-use Rattle.hg_valid.specs.Broken.{AllKeep}
-use Rattle.hg_valid.specs.Ancestors.{AreJumps}
+use Rattle.hg_valid.specs.code.Broken.{AllKeep}
+use Rattle.hg_valid.specs.code.Ancestors.{AreJumps}
 use Rattle.hg_valid.specs.declared.ancestors.Jump.{Jump}
 use Rattle.hg_valid.proofs.ByPlace.{get_or_last}
 

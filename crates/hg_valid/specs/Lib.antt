@@ -1,15 +1,5 @@
-pub mod Ancestors
 pub mod Answers
-pub mod Broken
-pub mod LinkRules
-pub mod OtherKinds
-pub mod Parts
 pub mod Refused
-pub mod RuleView
 pub mod Runs
-pub mod Signatures
-pub mod Tables
-pub mod Successors
-pub mod Effects
-pub mod Regions
 pub mod SameRuns
+pub mod code

@@ -2,14 +2,14 @@
 
 ghost use Rattle.std.specs.Prelude.{◌≡◌, ◌<◌, ◌↔◌, IsTrue, IfOk, length, slice_get};
 ghost use Rattle.hg_graph.specs.Valid.{IsAncestor, Places};
-ghost use Rattle.hg_valid.specs.Ancestors.{LeadUp, AreJumps, IsAtOrAbove};
-ghost use Rattle.hg_valid.specs.Broken.{AllKeep};
+ghost use Rattle.hg_valid.specs.code.Ancestors.{LeadUp, AreJumps, IsAtOrAbove};
+ghost use Rattle.hg_valid.specs.code.Broken.{AllKeep};
 
 use hg_graph::{Graph, NodeId};
 use std::alloc::{AllocError, Global};
 
 // A step up from a node to one of its ancestors.
-#[derive(Clone, Copy, Debug)]
+#[derive(Clone, Copy)]
 pub(crate) struct Jump {
     // The ancestor.
     pub(crate) to: NodeId,

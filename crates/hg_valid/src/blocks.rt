@@ -1,4 +1,4 @@
-//! The rules of blocks, of static links and of calls.
+//! The rules of blocks, of static links, and of functions that are called or loaded.
 
 ghost use Rattle.std.specs.Prelude.{◌≡◌, ◌<◌, ◌↔◌, IsTrue, IfSome, IfNone, length};
 ghost use Rattle.hg_graph.specs.Graph.{op_at, static_input};
@@ -6,9 +6,9 @@ ghost use Rattle.hg_graph.specs.Valid as spec;
 ghost use Rattle.hg_graph.specs.View.{port_view};
 ghost use Rattle.hg_ops.specs.Op as kind;
 ghost use Rattle.hg_ops.specs.OpView.{op_view};
-ghost use Rattle.hg_valid.specs.Broken.{AllKeep};
-ghost use Rattle.hg_valid.specs.Parts.{BlockFits, HasStaticInput, IsOnlySource, IsFunctionOf};
-ghost use Rattle.hg_valid.specs.Tables.{AreTables};
+ghost use Rattle.hg_valid.specs.code.Broken.{AllKeep};
+ghost use Rattle.hg_valid.specs.code.Parts.{BlockFits, HasStaticInput, IsOnlySource, IsFunctionOf};
+ghost use Rattle.hg_valid.specs.code.Tables.{AreTables};
 
 use crate::ancestors::is_ancestor;
 use crate::port_links::{only_source, only_target};
@@ -99,7 +99,8 @@ fn has_constant(graph: &Graph, tables: &Tables, node: NodeId) -> bool
     }
 }
 
-/// Whether the node has its one static link where it is a `Call` or a `LoadConstant`, and stands where it sees it.
+/// Whether the node has its one static link where it is a `Call`, a `LoadConstant` or a `LoadFunction`, and stands where
+/// it sees a constant.
 pub(crate) fn keeps_static(graph: &Graph, tables: &Tables, node: NodeId) -> bool
     requires node_in { node.0 < length graph.now.nodes }
     requires tables { AreTables graph.now tables.now }
@@ -107,7 +108,9 @@ pub(crate) fn keeps_static(graph: &Graph, tables: &Tables, node: NodeId) -> bool
     ensures { IsTrue result ↔ spec.KeepsStatic graph.now node.0 (op_at graph.now node.0) }
 {
     match graph.op(node) {
-        OpKind::Call { .. } => static_source(graph, tables, node).is_some(),
+        OpKind::Call { .. } | OpKind::LoadFunction { .. } => {
+            static_source(graph, tables, node).is_some()
+        }
         OpKind::LoadConstant => has_constant(graph, tables, node),
         _ => true,
     }
@@ -144,14 +147,17 @@ fn has_callee(graph: &Graph, tables: &Tables, node: NodeId, ins: &Row, outs: &Ro
     }
 }
 
-/// Whether the node calls a function with its own arguments and results where it is a `Call`.
+/// Whether the node calls or loads a function with its own arguments and results where it is a `Call` or a
+/// `LoadFunction`.
 pub(crate) fn keeps_callee(graph: &Graph, tables: &Tables, node: NodeId) -> bool
     requires node_in { node.0 < length graph.now.nodes }
     requires tables { AreTables graph.now tables.now }
     ensures { IsTrue result ↔ spec.KeepsCallee graph.now node.0 (op_at graph.now node.0) }
 {
     match graph.op(node) {
-        OpKind::Call { ins, outs } => has_callee(graph, tables, node, ins, outs),
+        OpKind::Call { ins, outs } | OpKind::LoadFunction { ins, outs } => {
+            has_callee(graph, tables, node, ins, outs)
+        }
         _ => true,
     }
 }

@@ -4,9 +4,9 @@ ghost use Rattle.std.specs.Prelude.{◌≡◌, ◌≤◌, IfOk};
 ghost use Rattle.std.specs.Option.{option_map};
 ghost use Rattle.hg_graph.specs.View.{number_of};
 ghost use Rattle.hg_valid.specs.Answers.{FirstBroken};
-ghost use Rattle.hg_valid.specs.Broken.{EarlierHold, FirstToBreak};
-ghost use Rattle.hg_valid.specs.RuleView.{rule_view};
-ghost use Rattle.hg_valid.specs.Tables.{AreTables};
+ghost use Rattle.hg_valid.specs.code.Broken.{EarlierHold, FirstToBreak};
+ghost use Rattle.hg_valid.specs.code.RuleView.{rule_view};
+ghost use Rattle.hg_valid.specs.code.Tables.{AreTables};
 
 use crate::cycle::first_on_cycle;
 use crate::links::first_target;
@@ -18,7 +18,7 @@ use hg_graph::{Graph, NodeId};
 use std::alloc::{AllocError, Global};
 
 // A broken rule, by its number, and a node that breaks it.
-#[derive(Clone, Copy, Debug, PartialEq, Eq)]
+#[derive(Clone, Copy)]
 pub(crate) struct Broken {
     pub(crate) rule: u8,
     pub(crate) node: NodeId,

@@ -2,7 +2,7 @@
 
 ghost use Rattle.std.specs.Prelude.{◌≡◌, ℕ, ◌+◌, ◌-◌, ◌<◌, ◌≤◌, length, IfOk};
 ghost use Rattle.hg_graph.specs.Graph.{IsGraph, parent_at};
-ghost use Rattle.hg_valid.specs.Effects.{AreEffects, AreCarried};
+ghost use Rattle.hg_valid.specs.code.Effects.{AreEffects, AreCarried};
 
 use hg_graph::{Graph, NodeId};
 use hg_ops::is_effect;

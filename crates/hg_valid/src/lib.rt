@@ -24,6 +24,3 @@ pub mod valid;
 
 pub use ordered::is_ordered;
 pub use valid::{Invalid, Valid, validate};
-
-#[cfg(test)]
-mod tests;

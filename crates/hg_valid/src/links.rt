@@ -7,12 +7,12 @@ ghost use Rattle.hg_graph.specs.Valid as spec;
 ghost use Rattle.hg_graph.specs.View.{port_view, link_view, number_of};
 ghost use Rattle.hg_ops.specs.Op as kind;
 ghost use Rattle.hg_ops.specs.OpView.{op_view};
-ghost use Rattle.hg_valid.specs.Broken.{FirstToBreak};
-ghost use Rattle.hg_valid.specs.LinkRules.{LinkKeeps, LeastTarget, lesser};
-ghost use Rattle.hg_valid.specs.OtherKinds.{other_view, SameKind};
-ghost use Rattle.hg_valid.specs.Parts.{target, LinkJoins, LinkStays};
-ghost use Rattle.hg_valid.specs.RuleView.{link_rule_view};
-ghost use Rattle.hg_valid.specs.Tables.{AreTables};
+ghost use Rattle.hg_valid.specs.code.Broken.{FirstToBreak};
+ghost use Rattle.hg_valid.specs.code.LinkRules.{LinkKeeps, LeastTarget, lesser};
+ghost use Rattle.hg_valid.specs.code.OtherKinds.{other_view, SameKind};
+ghost use Rattle.hg_valid.specs.code.Parts.{target, LinkJoins, LinkStays};
+ghost use Rattle.hg_valid.specs.code.RuleView.{link_rule_view};
+ghost use Rattle.hg_valid.specs.code.Tables.{AreTables};
 
 use crate::op_tests::{is_input, is_operation, is_output};
 use crate::rule::LinkRule;
@@ -21,7 +21,7 @@ use hg_graph::{Graph, Link, NodeId, Port};
 use hg_ops::{OpKind, Rows};
 
 // What a port carries that isn't a value.
-#[derive(Clone, Copy, Debug, PartialEq, Eq)]
+#[derive(Clone, Copy, PartialEq, Eq)]
 enum OtherKind {
     Control,
     Function,
@@ -37,7 +37,7 @@ fn other_input(op: &OpKind, place: u64) -> Option<OtherKind>
     }
     match op {
         OpKind::DataflowBlock { .. } | OpKind::ExitBlock { .. } => Some(OtherKind::Control),
-        OpKind::Call { .. } => Some(OtherKind::Function),
+        OpKind::Call { .. } | OpKind::LoadFunction { .. } => Some(OtherKind::Function),
         OpKind::LoadConstant => Some(OtherKind::Constant),
         _ => None,
     }

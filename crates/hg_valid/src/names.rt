@@ -5,7 +5,7 @@ ghost use Rattle.std.specs.Option.{option_map, option_copied};
 ghost use Rattle.hg_graph.specs.Valid.{Names, name_of};
 ghost use Rattle.hg_graph.specs.View.{number_of};
 ghost use Rattle.hg_ops.specs.OpView.{op_view};
-ghost use Rattle.hg_valid.specs.Broken.{FirstToBreak};
+ghost use Rattle.hg_valid.specs.code.Broken.{FirstToBreak};
 
 use hg_graph::{Graph, NodeId};
 use hg_ops::OpKind;
@@ -29,10 +29,9 @@ pub(crate) fn first_named_again(alloc: Global, graph: &Graph) -> Result<Option<N
     let mut names: BTreeMap<&str, u64> = BTreeMap::new(alloc);
     for n in 0..graph.node_count() {
         if let Some(name) = function_name(graph.op(NodeId(n))) {
-            if names.contains_key(name) {
+            if names.insert(name, n)?.is_some() {
                 return Ok(Some(NodeId(n)));
             }
-            let _ = names.insert(name, n)?;
         }
     }
     Ok(None)

@@ -4,9 +4,9 @@ ghost use Rattle.std.specs.Prelude.{◌≡◌, ◌<◌, ◌↔◌, IsTrue, lengt
 ghost use Rattle.std.specs.Option.{option_map};
 ghost use Rattle.hg_graph.specs.Valid.{Keeps};
 ghost use Rattle.hg_graph.specs.View.{number_of};
-ghost use Rattle.hg_valid.specs.Broken.{EarlierHold, FirstToBreak};
-ghost use Rattle.hg_valid.specs.RuleView.{node_rule_view};
-ghost use Rattle.hg_valid.specs.Tables.{AreTables};
+ghost use Rattle.hg_valid.specs.code.Broken.{EarlierHold, FirstToBreak};
+ghost use Rattle.hg_valid.specs.code.RuleView.{node_rule_view};
+ghost use Rattle.hg_valid.specs.code.Tables.{AreTables};
 
 use crate::blocks::{keeps_callee, keeps_static, keeps_successors};
 use crate::places::{has_place, suits_parent};

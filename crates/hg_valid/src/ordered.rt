@@ -5,7 +5,7 @@ ghost use Rattle.std.specs.Bool.{OnTrue};
 ghost use Rattle.hg_ops.specs.Op as op;
 ghost use Rattle.hg_graph.specs.Graph.{op_at, children};
 ghost use Rattle.hg_graph.specs.Ordered.{IsOrdered};
-ghost use Rattle.hg_valid.specs.Regions.{AreApart, HaveSame, HasSame, ApartBelow, child_at};
+ghost use Rattle.hg_valid.specs.code.Regions.{AreApart, HaveSame, HasSame, ApartBelow, child_at};
 ghost use Rattle.hg_valid.specs.SameRuns.{RunsAreSame};
 
 use crate::effects::effects_of;
@@ -13,8 +13,8 @@ use crate::op_tests::is_dataflow_container;
 use crate::successors::successors_of;
 use crate::valid::Valid;
 use hg_graph::{Graph, NodeId};
-use hg_paths::longest_chains;
 use std::alloc::{AllocError, Global};
+use walks::longest_chains;
 
 /// Whether in each region any two effect nodes are joined by a path of value and order links. An effect node has an effect
 /// op, or an effect op somewhere inside. The runs of an ordered graph are the same under any picks.

@@ -3,14 +3,14 @@
 ghost use Rattle.std.specs.Prelude.{◌≡◌, ◌≢◌, ◌<◌, ◌↔◌, ◌∷◌, [], IsTrue, true, IfSome, IfNone, length};
 ghost use Rattle.std.specs.Option.{option_map};
 ghost use Rattle.hg_graph.specs.Graph.{op_at, links_into, links_from};
-ghost use Rattle.hg_graph.specs.Sources.{source_of};
+ghost use Rattle.hg_graph.specs.code.Sources.{source_of};
 ghost use Rattle.hg_graph.specs.Valid.{InputsAreFed, LinearOutputsAreTaken};
 ghost use Rattle.hg_graph.specs.View.{port_view, link_view};
 ghost use Rattle.hg_ops.specs.GraphType.{is_linear as linear};
 ghost use Rattle.hg_ops.specs.TypeView.{type_view};
 ghost use Rattle.hg_ops.specs.Op.{input_ports, output_ports};
-ghost use Rattle.hg_valid.specs.Parts.{target_of, IsOnlySource, IsOnlyTarget};
-ghost use Rattle.hg_valid.specs.Tables.{AreTables};
+ghost use Rattle.hg_valid.specs.code.Parts.{target_of, IsOnlySource, IsOnlyTarget};
+ghost use Rattle.hg_valid.specs.code.Tables.{AreTables};
 
 use crate::tables::{Tables, ins_at, outs_at};
 use hg_graph::{Graph, Link, NodeId, Port};

@@ -6,7 +6,7 @@ ghost use Rattle.hg_graph.specs.Graph.{op_at, children};
 ghost use Rattle.hg_graph.specs.Valid as spec;
 ghost use Rattle.hg_ops.specs.Op as kind;
 ghost use Rattle.hg_ops.specs.OpView.{op_view};
-ghost use Rattle.hg_valid.specs.Parts.{NoOtherBoundary, NoOtherExit, IsPairOf, IsEntryOf, AreFirstBlocks};
+ghost use Rattle.hg_valid.specs.code.Parts.{NoOtherBoundary, NoOtherExit, IsPairOf, IsEntryOf, AreFirstBlocks};
 
 use crate::op_tests::{is_boundary, is_dataflow_container, is_exit};
 use crate::places::child;

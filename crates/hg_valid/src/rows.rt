@@ -6,22 +6,7 @@ ghost use Rattle.hg_ops.specs.Op as kind;
 ghost use Rattle.hg_ops.specs.OpView.{op_view};
 ghost use Rattle.hg_ops.specs.TypeView.{type_view};
 
-use hg_ops::{GraphType, OpKind, Row, Rows};
-
-// Whether the types are the same, one by one.
-fn same_types(ones: &[GraphType], others: &[GraphType]) -> bool
-    ensures { IsTrue result ↔ (map type_view ones.now ≡ map type_view others.now) }
-{
-    if ones.len() != others.len() {
-        return false;
-    }
-    for k in 0..ones.len() {
-        if !ones[k].is_same(&others[k]) {
-            return false;
-        }
-    }
-    true
-}
+use hg_ops::{GraphType, OpKind, Row, Rows, same_types};
 
 /// Whether the row has the types of one row and then those of another.
 pub(crate) fn is_joined(row: &Row, front: &Row, back: &Row) -> bool

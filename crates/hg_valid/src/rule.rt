@@ -2,10 +2,10 @@
 
 ghost use Rattle.std.specs.Prelude.{◌≡◌, ◌≤◌};
 ghost use Rattle.hg_graph.specs.Valid.{number_of};
-ghost use Rattle.hg_valid.specs.RuleView.{rule_view};
+ghost use Rattle.hg_valid.specs.code.RuleView.{rule_view};
 
 // A rule, by what is looked at to test it.
-#[derive(Clone, Copy, Debug, PartialEq, Eq)]
+#[derive(Clone, Copy)]
 pub(crate) enum Rule {
     // Each node by itself.
     Node(NodeRule),
@@ -18,7 +18,7 @@ pub(crate) enum Rule {
 }
 
 // A rule that is tested node by node.
-#[derive(Clone, Copy, Debug, PartialEq, Eq)]
+#[derive(Clone, Copy)]
 pub(crate) enum NodeRule {
     Places,
     Children,
@@ -34,7 +34,7 @@ pub(crate) enum NodeRule {
 }
 
 // A rule that is tested link by link.
-#[derive(Clone, Copy, Debug, PartialEq, Eq)]
+#[derive(Clone, Copy)]
 pub(crate) enum LinkRule {
     Joins,
     SameParent,

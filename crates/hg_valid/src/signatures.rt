@@ -1,14 +1,14 @@
 //! The types at the value ports of all nodes.
 
 ghost use Rattle.std.specs.Prelude.{IfOk, length};
-ghost use Rattle.hg_valid.specs.Signatures.{AreSignatures};
+ghost use Rattle.hg_valid.specs.code.Signatures.{AreSignatures};
 
 use hg_graph::{Graph, NodeId};
 use hg_ops::{Row, signature};
 use std::alloc::{AllocError, Global};
 
 // The types at the value ports of a node.
-#[derive(Debug, Drop)]
+#[derive(Drop)]
 pub(crate) struct Signature {
     pub(crate) ins: Row,
     pub(crate) outs: Row,

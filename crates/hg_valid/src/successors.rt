@@ -4,14 +4,14 @@ ghost use Rattle.std.specs.Prelude.{◌≡◌, ℕ, ◌+◌, ◌<◌, [], ◌∷
 ghost use Rattle.hg_ops.specs.Op.{ins_of};
 ghost use Rattle.hg_ops.specs.OpView.{op_view};
 ghost use Rattle.hg_graph.specs.Graph.{IsGraph};
-ghost use Rattle.hg_paths.specs.Walks.{row};
-ghost use Rattle.hg_valid.specs.Successors.{AreSuccessors, HasEdges};
+ghost use Rattle.walks.specs.Walks.{row};
+ghost use Rattle.hg_valid.specs.code.Successors.{AreSuccessors, HasEdges};
 
 use gp_base::Sequence;
 use hg_graph::{Graph, Link, NodeId};
 use hg_ops::{OpKind, input_count};
-use hg_paths::Successors;
 use std::alloc::{AllocError, Global};
+use walks::Successors;
 
 /// A list for each node, with the nodes to which a value link or an order link leads from it.
 pub(crate) fn successors_of(alloc: Global, graph: &Graph) -> Result<Successors, AllocError>
@@ -69,7 +69,10 @@ fn value_input_count(op: &OpKind) -> u64
     ensures { result ≡ length (ins_of (op_view op.now)) }
 {
     match op {
-        OpKind::DataflowBlock { .. } | OpKind::ExitBlock { .. } | OpKind::LoadConstant => 0,
+        OpKind::DataflowBlock { .. }
+        | OpKind::ExitBlock { .. }
+        | OpKind::LoadConstant
+        | OpKind::LoadFunction { .. } => 0,
         OpKind::Call { ins, .. } => ins.len(),
         _ => input_count(op),
     }

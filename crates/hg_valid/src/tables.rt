@@ -3,7 +3,7 @@
 ghost use Rattle.std.specs.Prelude.{◌≡◌, ◌<◌, IfOk, length};
 ghost use Rattle.hg_graph.specs.Graph.{op_at};
 ghost use Rattle.hg_ops.specs.Op.{ins_of, outs_of};
-ghost use Rattle.hg_valid.specs.Tables.{AreTables};
+ghost use Rattle.hg_valid.specs.code.Tables.{AreTables};
 
 use crate::ancestors::{Jump, jumps_of};
 use crate::signatures::{Signature, signatures_of};
@@ -12,7 +12,7 @@ use hg_ops::Row;
 use std::alloc::{AllocError, Global};
 
 // The types at the value ports of each node, and a step up from each node.
-#[derive(Debug, Drop)]
+#[derive(Drop)]
 pub(crate) struct Tables {
     pub(crate) signatures: Vec<Signature>,
     pub(crate) jumps: Vec<Jump>,

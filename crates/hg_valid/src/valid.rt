@@ -14,7 +14,7 @@ use std::alloc::{AllocError, Global};
 use std::marker::Model;
 
 /// A valid graph. A contract sees it as the graph.
-#[derive(Debug, Drop)]
+#[derive(Drop)]
 pub struct Valid {
     graph: Graph,
 }
@@ -25,7 +25,7 @@ impl Model for Valid {
     ghost Value = { spec.Graph };
 
     ghost use Rattle.std.specs.Coded.{codes};
-    ghost use Rattle.hg_ops.specs.TypeCode.{coded_type};
+    ghost use Rattle.hg_ops.specs.code.TypeCode.{coded_type};
 
     ghost coded = { Prim.hlevel (codes, coded_type) };
 
@@ -37,7 +37,7 @@ impl Model for Valid {
 }
 
 /// Why a graph isn't valid. Both hand the graph back as it was.
-#[derive(Debug, Drop)]
+#[derive(Drop)]
 pub enum Invalid {
     /// A rule is broken.
     Rule {

@@ -1,5 +1,5 @@
 use Rattle.std.proofs.Common.{◌≡◌, take, drop}
-use Rattle.gp_form.specs.FormReading.{split}
+use Rattle.gp_form.specs.code.FormReading.{split}
 use Rattle.gp_form.proofs.FormTurns.{behind_front}
 use Rattle.gp_form.proofs.assigning.split.Given as goal
 

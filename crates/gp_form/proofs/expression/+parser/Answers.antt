@@ -2,7 +2,7 @@ use Rattle.std.proofs.Common.{◌≡◌, ap, arith, rules, length, map, [], ◌�
 use Rattle.std.proofs.lemmas.Result.{err_from_is_err_and}
 use Rattle.std.proofs.lemmas.List.{map_push}
 use Rattle.std.proofs.lemmas.Grind.{common_steps}
-use Rattle.gp_form.specs.Reading.{chain, chain_from, items, read, level, tighter}
+use Rattle.gp_form.specs.code.Reading.{chain, chain_from, items, read, level, tighter}
 use Rattle.gp_form.proofs.Turns.{one_more, no_more, deeper, items_close, items_fail, items_end, items_stop, items_go_on, items_run_out, items_close_last}
 use Rattle.gp_form.proofs.expression.+parser.Goals as goal
 use Rattle.gp_tree.specs.Expression.{expression}

@@ -1,6 +1,6 @@
 use Rattle.std.proofs.Common.{◌≡◌, map, ◌+◌, ◌-◌, ◌*◌}
-use Rattle.gp_form.specs.Reading.{read, level, tighter, looseness, chain, chain_from, items, items_from}
-use Rattle.gp_form.specs.Steps.{with_front}
+use Rattle.gp_form.specs.code.Reading.{read, level, tighter, looseness, chain, chain_from, items, items_from}
+use Rattle.gp_form.specs.code.Steps.{with_front}
 use Rattle.gp_form.proofs.expression.+parser.Given as goal
 use Rattle.gp_tree.specs.Expression.{expression}
 

@@ -1,6 +1,6 @@
 use Rattle.std.proofs.Common.{◌≡◌, length, is_some, true, false, rules}
 use Rattle.std.proofs.lemmas.Result.{err_from_is_err_and}
-use Rattle.gp_form.specs.FormReading.{nothing}
+use Rattle.gp_form.specs.code.FormReading.{nothing}
 use Rattle.gp_form.proofs.FormTurns.{names_start, names_fail, names_end, names_stop, names_go_on, names_run_out, there, not_there}
 use Rattle.gp_form.proofs.import.bare_names.Goals as goal
 

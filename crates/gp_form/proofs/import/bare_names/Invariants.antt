@@ -1,5 +1,5 @@
 use Rattle.std.proofs.Common.{◌≡◌, ◌-◌, length}
-use Rattle.gp_form.specs.FormReading.{names_from}
+use Rattle.gp_form.specs.code.FormReading.{names_from}
 use Rattle.gp_form.proofs.FormTurns.{with_names}
 use Rattle.gp_form.proofs.import.bare_names.Given as goal
 

@@ -2,8 +2,8 @@ use Rattle.std.proofs.Common.{◌+◌, length, refl}
 use Rattle.std.proofs.lemmas.Result.{err_from_is_err_and}
 use Rattle.gp_form.proofs.ListTurns.{listed_start, listed_close, listed_fail, listed_end, listed_stop, listed_go_on, listed_run_out}
 use Rattle.gp_form.specs.declared.list_end.ListEnd.TheVariants as until
-use Rattle.gp_form.specs.Reading.{past_end}
-use Rattle.gp_form.specs.Steps.{past_name}
+use Rattle.gp_form.specs.code.Reading.{past_end}
+use Rattle.gp_form.specs.code.Steps.{past_name}
 use Rattle.gp_form.proofs.import.names_inside.Goals as goal
 
 pub loop-turn-init : goal.loop-turn-init

@@ -1,8 +1,8 @@
 use Rattle.std.proofs.Common.{◌≡◌, ◌-◌}
 use Rattle.gp_form.specs.declared.list_end.ListEnd.TheVariants as until
-use Rattle.gp_form.specs.FormReading.{listed, listed_from}
-use Rattle.gp_form.specs.Reading.{past_end}
-use Rattle.gp_form.specs.Steps.{past_name, with_front}
+use Rattle.gp_form.specs.code.FormReading.{listed, listed_from}
+use Rattle.gp_form.specs.code.Reading.{past_end}
+use Rattle.gp_form.specs.code.Steps.{past_name, with_front}
 use Rattle.gp_form.proofs.import.names_inside.Given as goal
 
 abbrev pub invariant-loop-turn : goal.invariant-loop-turn

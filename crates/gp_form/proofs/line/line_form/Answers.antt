@@ -1,5 +1,5 @@
 use Rattle.std.proofs.Common.{◌≡◌, ◌↔◌, IsTrue, Bool, true, false, sym, ap, ◌∙◌}
-use Rattle.gp_form.specs.FormReading as spec
+use Rattle.gp_form.specs.code.FormReading as spec
 use Rattle.gp_form.specs.LineSize.{IsTooBig}
 use Rattle.gp_form.proofs.FormWhole.{found_is, nothing_is}
 use Rattle.gp_form.proofs.line.line_form.Goals as goal

@@ -3,8 +3,8 @@ use Rattle.std.proofs.lemmas.Result.{err_from_is_err_and}
 use Rattle.std.proofs.lemmas.List.{map_push}
 use Rattle.gp_form.proofs.ListTurns.{listed_start, listed_close, listed_fail, listed_end, listed_stop, listed_go_on, listed_run_out}
 use Rattle.gp_form.specs.declared.list_end.ListEnd.TheVariants as until
-use Rattle.gp_form.specs.FormReading.{param}
-use Rattle.gp_form.specs.Reading.{past_end}
+use Rattle.gp_form.specs.code.FormReading.{param}
+use Rattle.gp_form.specs.code.Reading.{past_end}
 use Rattle.gp_tree.specs.Form.{parameter}
 use Rattle.gp_form.proofs.param.params.Goals as goal
 

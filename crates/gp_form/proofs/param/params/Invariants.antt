@@ -1,8 +1,8 @@
 use Rattle.std.proofs.Common.{◌≡◌, map, ◌-◌}
 use Rattle.gp_form.specs.declared.list_end.ListEnd.TheVariants as until
-use Rattle.gp_form.specs.FormReading.{listed, listed_from, param}
-use Rattle.gp_form.specs.Reading.{past_end}
-use Rattle.gp_form.specs.Steps.{with_front}
+use Rattle.gp_form.specs.code.FormReading.{listed, listed_from, param}
+use Rattle.gp_form.specs.code.Reading.{past_end}
+use Rattle.gp_form.specs.code.Steps.{with_front}
 use Rattle.gp_tree.specs.Form.{parameter}
 use Rattle.gp_form.proofs.param.params.Given as goal
 

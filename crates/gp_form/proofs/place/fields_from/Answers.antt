@@ -1,6 +1,6 @@
 use Rattle.std.proofs.Common.{arith, rules}
 use Rattle.std.proofs.lemmas.Grind.{common_steps}
-use Rattle.gp_form.specs.Reading.{fields_from}
+use Rattle.gp_form.specs.code.Reading.{fields_from}
 use Rattle.gp_form.proofs.Turns.{one_more, no_more}
 use Rattle.gp_form.proofs.place.fields_from.Goals as goal
 

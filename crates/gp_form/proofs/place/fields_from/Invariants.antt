@@ -1,5 +1,5 @@
 use Rattle.std.proofs.Common.{◌≡◌, [], length, ◌-◌}
-use Rattle.gp_form.specs.Reading.{fields_from}
+use Rattle.gp_form.specs.code.Reading.{fields_from}
 use Rattle.gp_form.proofs.place.fields_from.Given as goal
 
 abbrev pub invariant-loop-turn : goal.invariant-loop-turn

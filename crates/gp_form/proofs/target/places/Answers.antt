@@ -1,7 +1,7 @@
 use Rattle.std.proofs.Common.{◌+◌, length, [], ◌∷◌, refl}
 use Rattle.std.proofs.lemmas.Result.{err_from_is_err_and}
 use Rattle.gp_form.proofs.ListTurns.{listed_init, listed_close, listed_fail, listed_end, listed_stop, listed_go_on, listed_run_out}
-use Rattle.gp_form.specs.Reading.{place_front, past_end}
+use Rattle.gp_form.specs.code.Reading.{place_front, past_end}
 use Rattle.gp_form.proofs.target.places.Goals as goal
 
 pub loop-turn-init : goal.loop-turn-init

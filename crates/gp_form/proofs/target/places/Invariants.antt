@@ -1,7 +1,7 @@
 use Rattle.std.proofs.Common.{◌≡◌, [], ◌∷◌, ◌-◌}
-use Rattle.gp_form.specs.FormReading.{listed, listed_from}
-use Rattle.gp_form.specs.Reading.{place_front, past_end}
-use Rattle.gp_form.specs.Steps.{with_front}
+use Rattle.gp_form.specs.code.FormReading.{listed, listed_from}
+use Rattle.gp_form.specs.code.Reading.{place_front, past_end}
+use Rattle.gp_form.specs.code.Steps.{with_front}
 use Rattle.gp_form.proofs.target.places.Given as goal
 
 abbrev pub invariant-loop-turn : goal.invariant-loop-turn

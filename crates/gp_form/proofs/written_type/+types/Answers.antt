@@ -4,8 +4,8 @@ use Rattle.std.proofs.lemmas.List.{map_push}
 use Rattle.gp_form.proofs.ListTurns.{listed_start, listed_close, listed_fail, listed_end, listed_stop, listed_go_on, listed_run_out}
 use Rattle.gp_lex.specs.declared.token.Symbol.TheVariants as symbol
 use Rattle.gp_form.proofs.Turns.{deeper}
-use Rattle.gp_form.specs.FormReading.{type_at}
-use Rattle.gp_form.specs.Steps.{past_symbol}
+use Rattle.gp_form.specs.code.FormReading.{type_at}
+use Rattle.gp_form.specs.code.Steps.{past_symbol}
 use Rattle.gp_tree.specs.TypeExpression.{type_expression}
 use Rattle.gp_form.proofs.written_type.+types.Goals as goal
 

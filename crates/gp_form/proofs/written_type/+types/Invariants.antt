@@ -1,7 +1,7 @@
 use Rattle.std.proofs.Common.{◌≡◌, map, ◌+◌, ◌-◌, ◌*◌}
 use Rattle.gp_lex.specs.declared.token.Symbol.TheVariants as symbol
-use Rattle.gp_form.specs.FormReading.{listed, listed_from, type_at}
-use Rattle.gp_form.specs.Steps.{past_symbol, with_front}
+use Rattle.gp_form.specs.code.FormReading.{listed, listed_from, type_at}
+use Rattle.gp_form.specs.code.Steps.{past_symbol, with_front}
 use Rattle.gp_tree.specs.TypeExpression.{type_expression}
 use Rattle.gp_form.proofs.written_type.+types.Given as goal
 

@@ -5,7 +5,7 @@ use Rattle.gp_lex.specs.declared.fault.LexFault.TheVariants.{NotUtf8}
 use Rattle.gp_lex.specs.Chars.{Text, line_feeds}
 use Rattle.gp_lex.specs.Pieces.{line_no}
 use Rattle.gp_lex.specs.Lines.{without_mark, source, HasFault, not_utf8}
-use Rattle.gp_lex.specs.Reading.{Gives, lines_of}
+use Rattle.gp_lex.specs.code.Reading.{Gives, lines_of}
 use Rattle.gp_lex.proofs.Lexed.{lexed, source_len}
 use Rattle.gp_lex.proofs.reader.lines.Goals as goal
 

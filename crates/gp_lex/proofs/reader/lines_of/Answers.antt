@@ -3,7 +3,7 @@ use Rattle.std.proofs.lemmas.Bool.{eqb-true}
 use Rattle.std.proofs.lemmas.Result.{err_from_is_err_and}
 use Rattle.gp_lex.specs.Chars.{Text}
 use Rattle.gp_lex.specs.Pieces.{behind}
-use Rattle.gp_lex.specs.Reading.{lines_of}
+use Rattle.gp_lex.specs.code.Reading.{lines_of}
 use Rattle.gp_lex.proofs.Turns.{start, goes_on, fails, over, done_all, is_some, less}
 use Rattle.gp_lex.proofs.reader.lines_of.Goals as goal
 

@@ -1,5 +1,5 @@
 use Rattle.std.proofs.Common.{length}
-use Rattle.gp_lex.specs.Reading.{lines_of}
+use Rattle.gp_lex.specs.code.Reading.{lines_of}
 use Rattle.gp_lex.proofs.Turns.{Kept}
 use Rattle.gp_lex.proofs.reader.lines_of.Given as goal
 

@@ -1,5 +1,5 @@
 use Rattle.std.proofs.Common.{◌≡◌, ◌+◌, take}
-use Rattle.gp_lower.specs.Growing.{grown}
+use Rattle.gp_lower.specs.code.Growing.{grown}
 use Rattle.gp_lower.proofs.thin.lower_thin.Given as goal
 
 -- the graph of the lines so far, whose last node has the qubit

@@ -1,7 +1,7 @@
 use Rattle.std.proofs.Common.{◌≡◌, ◌++◌, map, drop}
 use Rattle.gp_tree.specs.Statement.{statements}
 use Rattle.gp_scope.specs.Annotations as spec
-use Rattle.gp_scope.specs.AnnotationView.{annotation}
+use Rattle.gp_scope.specs.code.AnnotationView.{annotation}
 use Rattle.gp_scope.proofs.annotations.+add.Given as goal
 
 -- what was found and what is left are all

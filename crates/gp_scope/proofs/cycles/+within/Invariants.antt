@@ -1,6 +1,6 @@
 use Rattle.std.proofs.Common.{◌≡◌, drop, nat_le}
 use Rattle.gp_tree.specs.TypeExpression.{type_expressions}
-use Rattle.gp_scope.specs.EachName.{each_name_of}
+use Rattle.gp_scope.specs.code.EachName.{each_name_of}
 use Rattle.gp_scope.specs.Tables.{value_in}
 use Rattle.gp_scope.proofs.cycles.+within.Given as goal
 

@@ -1,6 +1,6 @@
 use Rattle.std.proofs.Common.{◌≡◌, drop, map, nat_le}
 use Rattle.gp_tree.specs.Program.{field_definition}
-use Rattle.gp_scope.specs.EachName.{each_field_name}
+use Rattle.gp_scope.specs.code.EachName.{each_field_name}
 use Rattle.gp_scope.specs.Tables.{value_in}
 use Rattle.gp_scope.proofs.cycles.are_fields_within.Given as goal
 

@@ -5,7 +5,7 @@ use Rattle.gp_tree.specs.declared.program.Item.{Item}
 use Rattle.gp_tree.specs.declared.program.Item.TheVariants as item
 use Rattle.gp_tree.specs.Program.{program_items}
 use Rattle.gp_scope.specs.Definitions.{structs_in}
-use Rattle.gp_scope.specs.Components.{held_within}
+use Rattle.gp_scope.specs.code.Components.{held_within}
 use Rattle.gp_scope.specs.Tables.{value_in}
 use Rattle.gp_scope.proofs.ScopeLoops.{at-item}
 use Rattle.gp_scope.proofs.cycles.are_ordered.Goals as goal

@@ -2,7 +2,7 @@ use Rattle.std.proofs.Common.{◌≡◌, drop}
 use Rattle.std.specs.List.{list_all}
 use Rattle.gp_tree.specs.Program.{program_items}
 use Rattle.gp_scope.specs.Definitions.{structs_in}
-use Rattle.gp_scope.specs.Components.{held_within}
+use Rattle.gp_scope.specs.code.Components.{held_within}
 use Rattle.gp_scope.specs.Tables.{value_in}
 use Rattle.gp_scope.proofs.cycles.are_ordered.Given as goal
 

@@ -1,6 +1,6 @@
 use Rattle.std.proofs.Common.{◌≡◌, map, drop}
 use Rattle.gp_tree.specs.Program.{program_items}
-use Rattle.gp_scope.specs.AnnotationView.{annotation}
+use Rattle.gp_scope.specs.code.AnnotationView.{annotation}
 use Rattle.gp_scope.specs.Parts as spec
 use Rattle.gp_scope.proofs.parts.check_annotations.Given as goal
 

@@ -1,4 +1,4 @@
-use Rattle.gp_scope.specs.NamesOf.{AreWhole}
+use Rattle.gp_scope.specs.code.NamesOf.{AreWhole}
 use Rattle.gp_scope.proofs.phase.make_scope.Goals as goal
 
 pub returns : goal.returns

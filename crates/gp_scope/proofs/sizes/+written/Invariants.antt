@@ -1,6 +1,6 @@
 use Rattle.std.proofs.Common.{◌≡◌, ◌≤◌, ◌+◌, min, drop}
 use Rattle.gp_tree.specs.TypeExpression.{type_expressions}
-use Rattle.gp_scope.specs.Levels.{total_by}
+use Rattle.gp_scope.specs.code.Levels.{total_by}
 use Rattle.gp_scope.specs.Tables.{value_in}
 use Rattle.gp_scope.proofs.sizes.+written.Given as goal
 

@@ -1,6 +1,6 @@
 use Rattle.std.proofs.Common.{◌≡◌, ◌≤◌, ◌+◌, map, min, drop}
 use Rattle.gp_tree.specs.Program.{field_definition}
-use Rattle.gp_scope.specs.Levels.{fields_total}
+use Rattle.gp_scope.specs.code.Levels.{fields_total}
 use Rattle.gp_scope.specs.Tables.{value_in}
 use Rattle.gp_scope.proofs.sizes.fields_size.Given as goal
 

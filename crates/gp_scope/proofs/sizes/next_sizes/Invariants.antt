@@ -1,6 +1,6 @@
 use Rattle.std.proofs.Common.{◌≡◌, suc, map, min}
 use Rattle.gp_tree.specs.Program.{struct_definition}
-use Rattle.gp_scope.specs.Levels.{fields_total}
+use Rattle.gp_scope.specs.code.Levels.{fields_total}
 use Rattle.gp_scope.specs.Tables.{value_in}
 use Rattle.gp_scope.proofs.sizes.next_sizes.Given as goal
 

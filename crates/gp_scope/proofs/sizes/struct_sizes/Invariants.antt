@@ -1,6 +1,6 @@
 use Rattle.std.proofs.Common.{◌≡◌, ℕ, List}
 use Rattle.gp_tree.specs.Program.{program_items}
-use Rattle.gp_scope.specs.Levels.{level_size}
+use Rattle.gp_scope.specs.code.Levels.{level_size}
 use Rattle.gp_scope.specs.Tables.{value_in}
 use Rattle.gp_scope.proofs.sizes.struct_sizes.Given as goal
 

@@ -4,7 +4,7 @@ use Rattle.indexmap.specs.IndexMap.{get_by}
 use Rattle.gp_base.specs.declared.name.LineNo.{LineNo}
 use Rattle.gp_tree.specs.Program.{program_items}
 use Rattle.gp_types.specs.View.{ty_view}
-use Rattle.gp_scope.specs.AnnotationView.{annotation}
+use Rattle.gp_scope.specs.code.AnnotationView.{annotation}
 use Rattle.gp_scope.specs.Spelled.{spelled}
 use Rattle.gp_scope.proofs.tables.add_annotations.Given as goal
 

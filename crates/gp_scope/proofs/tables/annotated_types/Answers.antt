@@ -4,7 +4,7 @@ use Rattle.indexmap.specs.IndexMap.{get_by}
 use Rattle.gp_tree.specs.Program.{program_items}
 use Rattle.gp_tree.specs.Statement.{statements}
 use Rattle.gp_types.specs.View.{ty_view}
-use Rattle.gp_scope.specs.AnnotationView.{annotation}
+use Rattle.gp_scope.specs.code.AnnotationView.{annotation}
 use Rattle.gp_scope.specs.Annotations.{program_annotations}
 use Rattle.gp_scope.specs.Annotations as spec
 use Rattle.gp_scope.specs.Spelled.{spelled}

@@ -26,6 +26,6 @@ loop-item-preserved c = λ q.
       | in-Struct+in_ok-ty-in-Struct+in_ok-keep_first-in-Struct w ↦
           ap (λ t. option_or (option_map ty_view (get_by_text t q)) (option_map (λ s. spelled program (named_type q)) (struct_named (program_items (drop (c.loop-item.item-index + 1) items)) q))) w.table-is
           ∙ struct-added program items c.loop-item.item-index c.item-item.result w.in-Struct.decl (omega arith) c.item-item.is w.in-Struct.is c.loop-item.table w.keep_first.new.table w.in_ok-ty-in-Struct.ty
-          (λ n. w.in_ok-keep_first-in-Struct.ensures n ∙ ap (λ m. option_or (get_by_text c.loop-item.table n) (if bytes_eq n m then Some w.in_ok-ty-in-Struct.ty else None)) w.as_str-in-Struct.ensures)
-          (w.in_ok-ty-in-Struct.ensures ∙ ap (λ m. spelled program (named_type m)) w.as_str.ensures) q _ (c.loop-item.invariant q)
+          (λ n. w.in_ok-keep_first-in-Struct.ensures n ∙ ap (λ m. option_or (get_by_text c.loop-item.table n) (if bytes_eq n m then Some w.in_ok-ty-in-Struct.ty else None)) w.as_str.ensures)
+          w.in_ok-ty-in-Struct.ensures q _ (c.loop-item.invariant q)
     ]

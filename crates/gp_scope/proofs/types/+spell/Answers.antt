@@ -1,25 +1,16 @@
-use Rattle.std.proofs.Common.{rules, arith, ◌≡◌, suc, ◌≤◌, map, Some, ap, ap₂, sym, ◌∙◌}
+use Rattle.std.proofs.Common.{rules, arith, ◌≡◌, suc, ◌≤◌, length, map, Some, None, IfOk, ap, ap₂, subst, sym, ◌∙◌}
 use Rattle.gp_tree.specs.Program.{program_items, field_definition, struct_definition}
 use Rattle.gp_tree.specs.TypeExpression.{type_expression, type_expressions, tuple_type}
 use Rattle.gp_types.specs.Types as types
-use Rattle.gp_types.specs.Types.{tys_of, fields_of}
+use Rattle.gp_types.specs.Types.{Ty, tys_of, fields_of}
 use Rattle.gp_types.specs.Size.{size, total_size, total_field_size}
-use Rattle.gp_types.specs.View.{field_view}
+use Rattle.gp_types.specs.View.{ty_view, field_view}
 use Rattle.gp_scope.specs.Definitions.{struct_named}
-use Rattle.gp_scope.specs.NamesOf.{AreWhole, whole}
-use Rattle.gp_scope.specs.Spelled.{spelled, spelled_by, all_spelled_by, fields_spelled_by, spelled_field}
+use Rattle.gp_scope.specs.code.NamesOf.{AreWhole, whole}
+use Rattle.gp_scope.specs.Spelled.{spelled, basic_type, spelled_by, all_spelled_by, fields_spelled_by, spelled_field}
 use Rattle.gp_scope.specs.Tables.{struct_at}
-use Rattle.gp_scope.proofs.SpellLemmas.{spelled-items, spelled-fields, item-size, field-size, part-made, ty_view-Tuple, ty_view-Struct, field_view-made, type_expression-Tuple}
+use Rattle.gp_scope.proofs.SpellLemmas.{spelled-items, spelled-fields, item-size, field-size, part-made, field_view-made, type_expression-Tuple, opened-basic}
 use Rattle.gp_scope.proofs.types.+spell.Goals as goal
-
-pub spell-returns-in_ok-spell_items-in-Tuple : goal.spell-returns-in_ok-spell_items-in-Tuple
-spell-returns-in_ok-spell_items-in-Tuple t c =
-    let written : type_expression c.args.ty.now ≡ tuple_type (type_expressions c.in-Tuple.items.items) = ap type_expression c.in-Tuple.is ∙ type_expression-Tuple c.in-Tuple.items in
-    ty_view-Tuple c.in_ok-spell_items-in-Tuple.field-0
-    ∙ ap (λ l. types.Tuple (tys_of l)) c.in_ok-spell_items-in-Tuple.ensures
-    ∙ ap (λ ts. types.Tuple ts) (spelled-items (whole c.args.names.now) c.deref.result.now)
-    ∙ ap (λ xs. types.Tuple (all_spelled_by (whole c.args.names.now) (type_expressions xs))) c.deref.ensures.value
-    ∙ sym (ap (λ x. spelled (program_items c.args.names.now.items.now) x) written)
 
 pub spell_fields-spell-requires : goal.spell_fields-spell-requires
 spell_fields-spell-requires t c =
@@ -29,9 +20,9 @@ spell_fields-spell-requires t c =
 
 pub spell_fields-loop-field-preserved : goal.spell_fields-loop-field-preserved
 spell_fields-loop-field-preserved t c =
-    part-made field_view (λ f. spelled_field (whole c.args.names.now) (field_definition f)) c.loop-field.made.items c.push.new.self.items (record { name = c.in_ok-new.field-0; ty = c.in_ok-spell.field-0 })
+    part-made field_view (λ f. spelled_field (whole c.args.names.now) (field_definition f)) c.loop-field.made.items c.push.new.self.items (record { name = c.in_ok-copy.field-0; ty = c.in_ok-spell.field-0 })
     c.args.fields.now c.loop-field.field-index c.field-item.result c.in_ok-push.ensures.items c.loop-field.invariant (omega arith) c.field-item.is
-    (field_view-made c.in_ok-new.field-0 c.in_ok-spell.field-0 ∙ ap₂ (λ n u. record { name = n; ty = u }) (c.in_ok-new.ensures ∙ c.as_str.ensures) c.in_ok-spell.ensures)
+    (field_view-made c.in_ok-copy.field-0 c.in_ok-spell.field-0 ∙ ap₂ (λ n u. record { name = n; ty = u }) c.in_ok-copy.ensures c.in_ok-spell.ensures)
 
 pub spell_items-spell-requires : goal.spell_items-spell-requires
 spell_items-spell-requires t c =
@@ -50,13 +41,33 @@ spell_name-spell_fields-requires t c =
     ap (λ xs. total_field_size (fields_spelled_by (whole c.args.names.now) (map field_definition xs))) c.as_slice.ensures in
     (omega arith, known)
 
-pub spell_name-returns-in_ok-spell_fields-in-Some : goal.spell_name-returns-in_ok-spell_fields-in-Some
-spell_name-returns-in_ok-spell_fields-in-Some t c =
+pub spell-returns-in_ok-spell_items-in-Tuple : goal.spell-returns-in_ok-spell_items-in-Tuple
+spell-returns-in_ok-spell_items-in-Tuple t c =
+    let P : Ty → Type 0 = λ seen. IfOk c.tuple.result (λ made. ty_view made ≡ seen) in
+    let written : type_expression c.args.ty.now ≡ tuple_type (type_expressions c.in-Tuple.items.items) = ap type_expression c.in-Tuple.is ∙ type_expression-Tuple c.in-Tuple.items in
+    subst P
+    (ap (λ l. types.Tuple (tys_of l)) c.in_ok-spell_items-in-Tuple.ensures
+    ∙ ap (λ ts. types.Tuple ts) (spelled-items (whole c.args.names.now) c.deref.result.now)
+    ∙ ap (λ xs. types.Tuple (all_spelled_by (whole c.args.names.now) (type_expressions xs))) c.deref.ensures.value
+    ∙ sym (ap (λ x. spelled (program_items c.args.names.now.items.now) x) written))
+    c.tuple.ensures
+
+pub spell_name-returns-in_ok-copy-in-Some : goal.spell_name-returns-in_ok-copy-in-Some
+spell_name-returns-in_ok-copy-in-Some t c =
+    let P : Ty → Type 0 = λ seen. IfOk c.structure.result (λ made. ty_view made ≡ seen) in
     let known : AreWhole c.args.names.now = assumption in
     let at : struct_at c.args.names.now.structs c.args.name.now ≡ Some (struct_definition c.in-Some.decl.now.now) = search rules in
     let is : struct_named (program_items c.args.names.now.items.now) c.args.name.now ≡ Some (struct_definition c.in-Some.decl.now.now) = sym (known.0.1 c.args.name.now) ∙ at in
-    ty_view-Struct c.in_ok-new-in-Some.field-0 c.in_ok-spell_fields-in-Some.field-0
-    ∙ ap₂ (λ n fs. types.Struct n fs) c.in_ok-new-in-Some.ensures
-    (ap fields_of c.in_ok-spell_fields-in-Some.ensures ∙ spelled-fields (whole c.args.names.now) c.as_slice.result.now
+    subst P
+    (ap₂ (λ n fs. types.Struct n fs) c.in_ok-copy-in-Some.ensures
+    (ap fields_of c.in_ok-fields-in-Some.ensures ∙ spelled-fields (whole c.args.names.now) c.as_slice.result.now
     ∙ ap (λ xs. fields_spelled_by (whole c.args.names.now) (map field_definition xs)) c.as_slice.ensures)
-    ∙ sym (known.1 c.args.name.now (struct_definition c.in-Some.decl.now.now) is)
+    ∙ sym (known.1 c.args.name.now (struct_definition c.in-Some.decl.now.now) is))
+    c.structure.ensures
+
+pub spell_name-returns-in-None : goal.spell_name-returns-in-None
+spell_name-returns-in-None t c =
+    let known : AreWhole c.args.names.now = assumption in
+    let program = program_items c.args.names.now.items.now in
+    let at : struct_at c.args.names.now.structs c.args.name.now ≡ None = search rules in
+    c.basic_type.ensures ∙ ap basic_type c.as_str-text.ensures ∙ sym (opened-basic (length program) program c.args.name.now (sym (known.0.1 c.args.name.now) ∙ at))

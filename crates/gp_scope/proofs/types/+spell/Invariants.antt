@@ -3,7 +3,7 @@ use Rattle.gp_tree.specs.Program.{field_definition}
 use Rattle.gp_tree.specs.TypeExpression.{type_expression, type_expressions}
 use Rattle.gp_types.specs.Size.{size, total_size, total_field_size}
 use Rattle.gp_types.specs.View.{ty_view, field_view}
-use Rattle.gp_scope.specs.NamesOf.{whole}
+use Rattle.gp_scope.specs.code.NamesOf.{whole}
 use Rattle.gp_scope.specs.Spelled.{spelled_by, all_spelled_by, fields_spelled_by, spelled_field}
 use Rattle.gp_scope.proofs.types.+spell.Given as goal
 

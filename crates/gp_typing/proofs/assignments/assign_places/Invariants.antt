@@ -2,7 +2,7 @@ use Rattle.std.proofs.Common.{◌≡◌, drop, map}
 use Rattle.gp_types.specs.Types.{tys_of}
 use Rattle.gp_types.specs.View.{ty_view}
 use Rattle.gp_typing.specs.Statements as spec
-use Rattle.gp_typing.specs.StatementView.{frame_view}
+use Rattle.gp_typing.specs.code.StatementView.{frame_view}
 use Rattle.gp_typing.proofs.assignments.assign_places.Given as goal
 
 -- the targets that are left, in the environment so far, answer what all do

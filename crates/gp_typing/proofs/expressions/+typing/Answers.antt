@@ -1,12 +1,14 @@
-use Rattle.std.proofs.Common.{◌∙◌, ap, sym, map, drop, Ok}
+use Rattle.std.proofs.Common.{◌∙◌, ap, subst, sym, map, drop, Ok}
 use Rattle.gp_tree.specs.Expression.{expression, expressions}
 use Rattle.gp_typing.specs.Expressions as spec
-use Rattle.gp_typing.specs.ExpressionView.{value_view, values_view, typed_in, valued_in, values_in}
+use Rattle.gp_typing.specs.code.ExpressionView.{value_view, values_view, typed_in, valued_in, values_in}
 use Rattle.gp_types.specs.View.{ty_view}
-use Rattle.gp_typing.specs.CallView.{callee_view, callee_in, arguments_view, tag_of}
-use Rattle.gp_typing.specs.Operations.{place_of, minus_of, negation_of, binary_of, both_of, either_of, choice_of}
+use Rattle.gp_typing.specs.code.CallView.{call_in, callee_in, arguments_view, tag_of}
+use Rattle.gp_locals.specs.CalleeView.{callee_view}
+use Rattle.gp_typing.specs.Checks.{Answers}
+use Rattle.gp_typing.specs.code.Operations.{place_of, minus_of, negation_of, binary_of, both_of, either_of, choice_of}
 use Rattle.gp_typing.specs.View.{expression_view}
-use Rattle.gp_typing.proofs.Binds.{bind-err, bind-ok, exits, ends, one-err, one-ok, two-err, two-err-2, two-ok, three-err, three-err-2, three-err-3, three-ok, number-typed, boolean-typed, text-typed, place-typed, minus-typed, negation-typed, binary-typed, both-typed, either-typed, choice-typed, tuple-typed, call-no-values, call-called, values-step, values-err, values-end}
+use Rattle.gp_typing.proofs.Binds.{bind-err, bind-ok, exits, ends, one-err, one-ok, two-err, two-err-2, two-ok, three-err, three-err-2, three-err-3, three-ok, number-typed, boolean-typed, text-typed, place-typed, minus-typed, negation-typed, binary-typed, both-typed, either-typed, choice-typed, tuple-typed, call-typed, call-no-values, call-called, values-step, values-err, values-end}
 use Rattle.gp_typing.proofs.expressions.+typing.Goals as goal
 
 pub type_expr-returns-in-Int : goal.type_expr-returns-in-Int
@@ -26,25 +28,25 @@ type_expr-returns-in-Place t c =
     ends expression_view c.type_place.result (typed_in c.args.context.now (expression c.args.expr.now)) (place_of c.args.context.now.names.now c.args.context.now.environment.now c.args.context.now.line c.in-Place.place)
     (place-typed c.args.context.now c.args.expr.now c.in-Place.place c.in-Place.is) c.type_place.ensures
 
-pub type_expr-returns-in_err-operand-in-Neg : goal.type_expr-returns-in_err-operand-in-Neg
-type_expr-returns-in_err-operand-in-Neg t c =
-    exits expression_view c.from_residual.result (typed_in c.args.context.now (expression c.args.expr.now)) c.in_err-operand-in-Neg.field-0.0 c.from_residual.ensures.1
-    (λ n. one-err c.args.context.now c.args.expr.now c.deref.result.now c.in-Neg.operand.value (minus_of c.args.context.now.line) (minus-typed c.args.context.now c.args.expr.now c.in-Neg.operand c.in-Neg.is) c.deref.ensures c.in_err-operand-in-Neg.field-0.0 (c.in_err-operand-in-Neg.ensures n))
+pub type_expr-returns-in_err-type_value-in-Neg : goal.type_expr-returns-in_err-type_value-in-Neg
+type_expr-returns-in_err-type_value-in-Neg t c =
+    exits expression_view c.from_residual.result (typed_in c.args.context.now (expression c.args.expr.now)) c.in_err-type_value-in-Neg.field-0.0 c.from_residual.ensures.1
+    (λ n. one-err c.args.context.now c.args.expr.now c.deref.result.now c.in-Neg.operand.value (minus_of c.args.context.now.line) (minus-typed c.args.context.now c.args.expr.now c.in-Neg.operand c.in-Neg.is) c.deref.ensures c.in_err-type_value-in-Neg.field-0.0 (c.in_err-type_value-in-Neg.ensures n))
 
-pub type_expr-returns-in_ok-operand-in-Neg : goal.type_expr-returns-in_ok-operand-in-Neg
-type_expr-returns-in_ok-operand-in-Neg t c =
-    ends expression_view c.minus.result (typed_in c.args.context.now (expression c.args.expr.now)) (minus_of c.args.context.now.line (value_view c.in_ok-operand-in-Neg.operand))
-    (one-ok c.args.context.now c.args.expr.now c.deref.result.now c.in-Neg.operand.value (minus_of c.args.context.now.line) (minus-typed c.args.context.now c.args.expr.now c.in-Neg.operand c.in-Neg.is) c.deref.ensures (value_view c.in_ok-operand-in-Neg.operand) c.in_ok-operand-in-Neg.ensures) c.minus.ensures
+pub type_expr-returns-in_ok-type_value-in-Neg : goal.type_expr-returns-in_ok-type_value-in-Neg
+type_expr-returns-in_ok-type_value-in-Neg t c =
+    ends expression_view c.minus.result (typed_in c.args.context.now (expression c.args.expr.now)) (minus_of c.args.context.now.line (value_view c.in_ok-type_value-in-Neg.field-0))
+    (one-ok c.args.context.now c.args.expr.now c.deref.result.now c.in-Neg.operand.value (minus_of c.args.context.now.line) (minus-typed c.args.context.now c.args.expr.now c.in-Neg.operand c.in-Neg.is) c.deref.ensures (value_view c.in_ok-type_value-in-Neg.field-0) c.in_ok-type_value-in-Neg.ensures) c.minus.ensures
 
-pub type_expr-returns-in_err-operand-in-Not : goal.type_expr-returns-in_err-operand-in-Not
-type_expr-returns-in_err-operand-in-Not t c =
-    exits expression_view c.from_residual-in_err-operand-in-Not.result (typed_in c.args.context.now (expression c.args.expr.now)) c.in_err-operand-in-Not.field-0.0 c.from_residual-in_err-operand-in-Not.ensures.1
-    (λ n. one-err c.args.context.now c.args.expr.now c.deref-in-Not.result.now c.in-Not.operand.value (negation_of c.args.context.now.line) (negation-typed c.args.context.now c.args.expr.now c.in-Not.operand c.in-Not.is) c.deref-in-Not.ensures c.in_err-operand-in-Not.field-0.0 (c.in_err-operand-in-Not.ensures n))
+pub type_expr-returns-in_err-type_value-in-Not : goal.type_expr-returns-in_err-type_value-in-Not
+type_expr-returns-in_err-type_value-in-Not t c =
+    exits expression_view c.from_residual-in_err-type_value-in-Not.result (typed_in c.args.context.now (expression c.args.expr.now)) c.in_err-type_value-in-Not.field-0.0 c.from_residual-in_err-type_value-in-Not.ensures.1
+    (λ n. one-err c.args.context.now c.args.expr.now c.deref-in-Not.result.now c.in-Not.operand.value (negation_of c.args.context.now.line) (negation-typed c.args.context.now c.args.expr.now c.in-Not.operand c.in-Not.is) c.deref-in-Not.ensures c.in_err-type_value-in-Not.field-0.0 (c.in_err-type_value-in-Not.ensures n))
 
-pub type_expr-returns-in_ok-operand-in-Not : goal.type_expr-returns-in_ok-operand-in-Not
-type_expr-returns-in_ok-operand-in-Not t c =
-    ends expression_view c.negation.result (typed_in c.args.context.now (expression c.args.expr.now)) (negation_of c.args.context.now.line (value_view c.in_ok-operand-in-Not.operand))
-    (one-ok c.args.context.now c.args.expr.now c.deref-in-Not.result.now c.in-Not.operand.value (negation_of c.args.context.now.line) (negation-typed c.args.context.now c.args.expr.now c.in-Not.operand c.in-Not.is) c.deref-in-Not.ensures (value_view c.in_ok-operand-in-Not.operand) c.in_ok-operand-in-Not.ensures) c.negation.ensures
+pub type_expr-returns-in_ok-type_value-in-Not : goal.type_expr-returns-in_ok-type_value-in-Not
+type_expr-returns-in_ok-type_value-in-Not t c =
+    ends expression_view c.negation.result (typed_in c.args.context.now (expression c.args.expr.now)) (negation_of c.args.context.now.line (value_view c.in_ok-type_value-in-Not.field-0))
+    (one-ok c.args.context.now c.args.expr.now c.deref-in-Not.result.now c.in-Not.operand.value (negation_of c.args.context.now.line) (negation-typed c.args.context.now c.args.expr.now c.in-Not.operand c.in-Not.is) c.deref-in-Not.ensures (value_view c.in_ok-type_value-in-Not.field-0) c.in_ok-type_value-in-Not.ensures) c.negation.ensures
 
 pub type_expr-returns-in_err-left-in-Binary : goal.type_expr-returns-in_err-left-in-Binary
 type_expr-returns-in_err-left-in-Binary t c =
@@ -124,15 +126,15 @@ type_expr-returns-in_ok-other-in-Choice t c =
     (three-ok c.args.context.now c.args.expr.now c.deref-in-Choice.result.now c.in-Choice.test.value c.deref-in-Choice-2.result.now c.in-Choice.value.value c.deref-in-Choice-3.result.now c.in-Choice.other.value (choice_of c.args.context.now.line)
     (choice-typed c.args.context.now c.args.expr.now c.in-Choice.test c.in-Choice.value c.in-Choice.other c.in-Choice.is) c.deref-in-Choice.ensures c.deref-in-Choice-2.ensures c.deref-in-Choice-3.ensures (value_view c.in_ok-test-in-Choice.test) c.in_ok-test-in-Choice.ensures (value_view c.in_ok-value-in-Choice.value) c.in_ok-value-in-Choice.ensures (value_view c.in_ok-other-in-Choice.other) c.in_ok-other-in-Choice.ensures) c.choice.ensures
 
-pub type_expr-returns-in_err-values-in-Tuple : goal.type_expr-returns-in_err-values-in-Tuple
-type_expr-returns-in_err-values-in-Tuple t c =
-    exits expression_view c.from_residual-in_err-values-in-Tuple.result (typed_in c.args.context.now (expression c.args.expr.now)) c.in_err-values-in-Tuple.field-0.0 c.from_residual-in_err-values-in-Tuple.ensures.1
-    (λ n. tuple-typed c.args.context.now c.args.expr.now c.in-Tuple.parts c.in-Tuple.is ∙ bind-err (values_in c.args.context.now (expressions c.in-Tuple.parts.items)) (λ vs. spec.tupled c.args.context.now.line vs) c.in_err-values-in-Tuple.field-0.0 (ap (λ xs. values_in c.args.context.now (expressions xs)) (sym c.deref-in-Tuple.ensures.value) ∙ c.in_err-values-in-Tuple.ensures n))
+pub type_expr-returns-in_err-type_values-in-Tuple : goal.type_expr-returns-in_err-type_values-in-Tuple
+type_expr-returns-in_err-type_values-in-Tuple t c =
+    exits expression_view c.from_residual-in_err-type_values-in-Tuple.result (typed_in c.args.context.now (expression c.args.expr.now)) c.in_err-type_values-in-Tuple.field-0.0 c.from_residual-in_err-type_values-in-Tuple.ensures.1
+    (λ n. tuple-typed c.args.context.now c.args.expr.now c.in-Tuple.parts c.in-Tuple.is ∙ bind-err (values_in c.args.context.now (expressions c.in-Tuple.parts.items)) (λ vs. spec.tupled c.args.context.now.line vs) c.in_err-type_values-in-Tuple.field-0.0 (ap (λ xs. values_in c.args.context.now (expressions xs)) (sym c.deref-in-Tuple.ensures.value) ∙ c.in_err-type_values-in-Tuple.ensures n))
 
-pub type_expr-returns-in_ok-values-in-Tuple : goal.type_expr-returns-in_ok-values-in-Tuple
-type_expr-returns-in_ok-values-in-Tuple t c =
-    ends expression_view c.tuple.result (typed_in c.args.context.now (expression c.args.expr.now)) (spec.tupled c.args.context.now.line (values_view c.in_ok-values-in-Tuple.values))
-    (tuple-typed c.args.context.now c.args.expr.now c.in-Tuple.parts c.in-Tuple.is ∙ bind-ok (values_in c.args.context.now (expressions c.in-Tuple.parts.items)) (λ vs. spec.tupled c.args.context.now.line vs) (values_view c.in_ok-values-in-Tuple.values) (ap (λ xs. values_in c.args.context.now (expressions xs)) (sym c.deref-in-Tuple.ensures.value) ∙ c.in_ok-values-in-Tuple.ensures)) c.tuple.ensures
+pub type_expr-returns-in_ok-type_values-in-Tuple : goal.type_expr-returns-in_ok-type_values-in-Tuple
+type_expr-returns-in_ok-type_values-in-Tuple t c =
+    ends expression_view c.tuple.result (typed_in c.args.context.now (expression c.args.expr.now)) (spec.tupled c.args.context.now.line (values_view c.in_ok-type_values-in-Tuple.field-0))
+    (tuple-typed c.args.context.now c.args.expr.now c.in-Tuple.parts c.in-Tuple.is ∙ bind-ok (values_in c.args.context.now (expressions c.in-Tuple.parts.items)) (λ vs. spec.tupled c.args.context.now.line vs) (values_view c.in_ok-type_values-in-Tuple.field-0) (ap (λ xs. values_in c.args.context.now (expressions xs)) (sym c.deref-in-Tuple.ensures.value) ∙ c.in_ok-type_values-in-Tuple.ensures)) c.tuple.ensures
 
 pub type_value-returns-in_err-typed : goal.type_value-returns-in_err-typed
 type_value-returns-in_err-typed t c =
@@ -144,25 +146,27 @@ type_value-returns t c =
     ends value_view c.value_of.result (valued_in c.args.context.now (expression c.args.expr.now)) (spec.value_of c.args.context.now.line (expression_view c.in_ok-typed.typed))
     (bind-ok (typed_in c.args.context.now (expression c.args.expr.now)) (spec.value_of c.args.context.now.line) (expression_view c.in_ok-typed.typed) c.in_ok-typed.ensures) c.value_of.ensures
 
-pub type_expr-returns-in_err-values-in-Some : goal.type_expr-returns-in_err-values-in-Some
-type_expr-returns-in_err-values-in-Some t c =
-    exits expression_view c.from_residual-in_err-values-in-Some.result (typed_in c.args.context.now (expression c.args.expr.now)) c.in_err-values-in-Some.field-0.0 c.from_residual-in_err-values-in-Some.ensures.1
-    (λ n. call-no-values c.args.context.now c.args.expr.now c.in-Call.name c.in-Call.arguments c.in-Call.is (callee_view c.in-Some.callee) (c.in-Some.ensures ∙ ap (callee_in c.args.context.now) c.as_str.ensures)
-    c.in_ok-tag-in-Some.tag
-    (ap (λ b. tag_of c.args.context.now.line b (expressions c.in-Call.arguments.items)) (sym c.takes_tag.ensures)
-    ∙ ap (λ l. tag_of c.args.context.now.line c.takes_tag.result (expressions l)) (sym c.deref-in-Some.ensures.value) ∙ c.in_ok-tag-in-Some.ensures)
-    c.in_err-values-in-Some.field-0.0 (ap (λ n. values_in c.args.context.now (expressions (drop n c.in-Call.arguments.items))) (sym c.count_tags.ensures)
-    ∙ ap (λ l. values_in c.args.context.now (expressions (drop c.count_tags.result l))) (sym c.deref-in-Some-2.ensures.value) ∙ c.in_err-values-in-Some.ensures n))
+pub type_expr-returns-in-Call : goal.type_expr-returns-in-Call
+type_expr-returns-in-Call t c =
+    ends expression_view c.type_call.result (typed_in c.args.context.now (expression c.args.expr.now)) (call_in c.args.context.now c.in-Call.name (expressions c.in-Call.arguments.items))
+    (call-typed c.args.context.now c.args.expr.now c.in-Call.name c.in-Call.arguments c.in-Call.is)
+    (subst (λ xs. Answers expression_view c.type_call.result (call_in c.args.context.now c.in-Call.name (expressions xs))) c.deref-in-Call.ensures.value c.type_call.ensures)
 
-pub type_expr-returns-in_ok-values-in-Some : goal.type_expr-returns-in_ok-values-in-Some
-type_expr-returns-in_ok-values-in-Some t c =
-    ends expression_view c.call.result (typed_in c.args.context.now (expression c.args.expr.now)) (spec.called c.args.context.now.line c.in-Call.name (callee_view c.in-Some.callee) (arguments_view c.in_ok-tag-in-Some.tag c.in_ok-values-in-Some.values))
-    (call-called c.args.context.now c.args.expr.now c.in-Call.name c.in-Call.arguments c.in-Call.is (callee_view c.in-Some.callee) (c.in-Some.ensures ∙ ap (callee_in c.args.context.now) c.as_str.ensures)
-    c.in_ok-tag-in-Some.tag
-    (ap (λ b. tag_of c.args.context.now.line b (expressions c.in-Call.arguments.items)) (sym c.takes_tag.ensures)
-    ∙ ap (λ l. tag_of c.args.context.now.line c.takes_tag.result (expressions l)) (sym c.deref-in-Some.ensures.value) ∙ c.in_ok-tag-in-Some.ensures)
-    (values_view c.in_ok-values-in-Some.values) (ap (λ n. values_in c.args.context.now (expressions (drop n c.in-Call.arguments.items))) (sym c.count_tags.ensures)
-    ∙ ap (λ l. values_in c.args.context.now (expressions (drop c.count_tags.result l))) (sym c.deref-in-Some-2.ensures.value) ∙ c.in_ok-values-in-Some.ensures))
+pub type_call-returns-in_err-values : goal.type_call-returns-in_err-values
+type_call-returns-in_err-values t c =
+    exits expression_view c.from_residual-in_err-values.result (call_in c.args.context.now c.args.name.now (expressions c.args.arguments.now)) c.in_err-values.field-0.0 c.from_residual-in_err-values.ensures.1
+    (λ n. call-no-values c.args.context.now c.args.name.now c.args.arguments.now (callee_view c.in-Some.callee) (c.in-Some.ensures ∙ ap (callee_in c.args.context.now) c.as_str.ensures)
+    c.in_ok-tag.tag
+    (ap (λ b. tag_of c.args.context.now.line b (expressions c.args.arguments.now)) (sym c.takes_tag.ensures) ∙ c.in_ok-tag.ensures)
+    c.in_err-values.field-0.0 (ap (λ n. values_in c.args.context.now (expressions (drop n c.args.arguments.now))) (sym c.count_tags.ensures) ∙ c.in_err-values.ensures n))
+
+pub type_call-returns : goal.type_call-returns
+type_call-returns t c =
+    ends expression_view c.call.result (call_in c.args.context.now c.args.name.now (expressions c.args.arguments.now)) (spec.called c.args.context.now.line c.args.name.now (callee_view c.in-Some.callee) (arguments_view c.in_ok-tag.tag c.in_ok-values.values))
+    (call-called c.args.context.now c.args.name.now c.args.arguments.now (callee_view c.in-Some.callee) (c.in-Some.ensures ∙ ap (callee_in c.args.context.now) c.as_str.ensures)
+    c.in_ok-tag.tag
+    (ap (λ b. tag_of c.args.context.now.line b (expressions c.args.arguments.now)) (sym c.takes_tag.ensures) ∙ c.in_ok-tag.ensures)
+    (values_view c.in_ok-values.values) (ap (λ n. values_in c.args.context.now (expressions (drop n c.args.arguments.now))) (sym c.count_tags.ensures) ∙ c.in_ok-values.ensures))
     c.call.ensures
 
 pub type_values-loop-i-preserved : goal.type_values-loop-i-preserved

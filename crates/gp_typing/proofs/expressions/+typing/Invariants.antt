@@ -1,7 +1,7 @@
 use Rattle.std.proofs.Common.{◌≡◌, map, drop}
 use Rattle.gp_tree.specs.Expression.{expressions}
 use Rattle.gp_types.specs.View.{ty_view}
-use Rattle.gp_typing.specs.ExpressionView.{values_in}
+use Rattle.gp_typing.specs.code.ExpressionView.{values_in}
 use Rattle.gp_typing.specs.View.{expression_view}
 use Rattle.gp_typing.proofs.Rows.{values_before}
 use Rattle.gp_typing.proofs.expressions.+typing.Given as goal

@@ -1,6 +1,6 @@
 use Rattle.std.proofs.Common.{◌≡◌, drop, map}
 use Rattle.gp_types.specs.Signature.{parameter_view}
-use Rattle.gp_environment.specs.Environment.{nothing_usable}
+use Rattle.gp_locals.specs.Environment.{nothing_usable}
 use Rattle.gp_typing.specs.Functions as spec
 use Rattle.gp_typing.proofs.functions.start_of.Given as goal
 

@@ -1,4 +1,4 @@
-use Rattle.std.proofs.Common.{arith, ◌∷◌, [], ◌++◌, ◌+◌, ◌∙◌, ap, sym, map, drop}
+use Rattle.std.proofs.Common.{arith, ◌+◌, ◌∙◌, ap, sym, map, drop}
 use Rattle.gp_tree.specs.Program.{program_items, function_definition}
 use Rattle.gp_scope.specs.ScopeView.{known_in}
 use Rattle.gp_scope.proofs.ScopeLoops.{at-item}

@@ -1,4 +1,4 @@
-use Rattle.std.proofs.Common.{arith, drop, ◌+◌, ◌∙◌, ap, option_map, Some, None, if◌then◌else◌, bytes_eq}
+use Rattle.std.proofs.Common.{arith, drop, ◌+◌, ◌∙◌, ap, option_map, None, if◌then◌else◌, bytes_eq}
 use Rattle.std.specs.Option.{option_or}
 use Rattle.indexmap.specs.IndexMap.{get_by_text}
 use Rattle.gp_tree.specs.Program.{program_items}

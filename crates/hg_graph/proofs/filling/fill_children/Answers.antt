@@ -1,6 +1,6 @@
 use Rattle.std.proofs.Common.{◌≡◌, ◌∙◌, ℕ, get_or, sym, ap, subst, add-one, suc}
 use Rattle.hg_graph.specs.Graph.{Graph, parent_at}
-use Rattle.hg_graph.specs.GraphIndex.{IsFilled, updated}
+use Rattle.hg_graph.specs.code.GraphIndex.{IsFilled, updated}
 use Rattle.hg_graph.specs.NodeIndex.{with_child}
 use Rattle.hg_graph.specs.NodeView.{node_view}
 use Rattle.std.proofs.Common.{map}

@@ -1,5 +1,5 @@
 use Rattle.std.proofs.Common.{map, []}
-use Rattle.hg_graph.specs.GraphIndex.{IsFilled}
+use Rattle.hg_graph.specs.code.GraphIndex.{IsFilled}
 use Rattle.hg_graph.specs.NodeView.{node_view}
 use Rattle.hg_graph.proofs.filling.fill_children.Given as goal
 

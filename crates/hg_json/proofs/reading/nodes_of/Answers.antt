@@ -11,7 +11,7 @@ use Rattle.hg_json.proofs.reading.nodes_of.Goals as goal
 pub returns-in_err-node-clause-answers : goal.returns-in_err-node-clause-answers
 returns-in_err-node-clause-answers c =
     let p = err_from_is_err_and c.from_residual.result c.from_residual.ensures.1 in
-    rw (p.1, p.2, ← c.count-total.ensures) (ends (node_of c.count-total.result) BadNode (map node_view c.loop-k.nodes) c.args.entries.now c.loop-k.k _ c.loop-k.invariant.so_far c.in_err-node.field-0.0 c.index-entries-k.result c.loop-k-test.true c.index-entries-k.is c.in_err-node.ensures.answers)
+    rw (p.1, p.2, ← c.count-total.ensures) (ends (node_of c.args.profile c.count-total.result) BadNode (map node_view c.loop-k.nodes) c.args.entries.now c.loop-k.k _ c.loop-k.invariant.so_far c.in_err-node.field-0.0 c.index-entries-k.result c.loop-k-test.true c.index-entries-k.is c.in_err-node.ensures.answers)
 
 pub loop-k-preserved : goal.loop-k-preserved
 loop-k-preserved c =
@@ -21,12 +21,12 @@ loop-k-preserved c =
     record {
       many = rw pushed (omega (arith, length_push c.loop-k.nodes node, c.loop-k.invariant.many));
       parents_in = rw pushed (All-push (λ n. n.parent.0 < c.count-total.result) c.loop-k.nodes node c.loop-k.invariant.parents_in c.in_ok-node.ensures.parent_in);
-      so_far = rw viewed (goes_on (node_of c.count-total.result) BadNode (map node_view c.loop-k.nodes) c.args.entries.now c.loop-k.k _ c.loop-k.invariant.so_far c.index-entries-k.result _ c.loop-k-test.true c.index-entries-k.is c.in_ok-node.ensures.answers);
+      so_far = rw viewed (goes_on (node_of c.args.profile c.count-total.result) BadNode (map node_view c.loop-k.nodes) c.args.entries.now c.loop-k.k _ c.loop-k.invariant.so_far c.index-entries-k.result _ c.loop-k-test.true c.index-entries-k.is c.in_ok-node.ensures.answers);
     }
 
 pub returns-clause-answers : goal.returns-clause-answers
 returns-clause-answers c =
-    rw (← c.count-total.ensures) (is_done (node_of c.count-total.result) BadNode (map node_view c.loop-k.nodes) c.args.entries.now c.loop-k.k _ c.loop-k.invariant.so_far c.loop-k-test.false)
+    rw (← c.count-total.ensures) (is_done (node_of c.args.profile c.count-total.result) BadNode (map node_view c.loop-k.nodes) c.args.entries.now c.loop-k.k _ c.loop-k.invariant.so_far c.loop-k-test.false)
 
 pub returns-clause-many : goal.returns-clause-many
 returns-clause-many c = omega (arith, count_items c.args.entries.now, c.loop-k.invariant.many, c.loop-k-test.false, c.loop-k.auto.k-end)

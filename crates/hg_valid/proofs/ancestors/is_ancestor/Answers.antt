@@ -1,7 +1,7 @@
 use Rattle.std.proofs.Common.{inl, inr, ◌<◌, ◌≤◌, length, sym, subst, arith}
 use Rattle.std.proofs.lemmas.Bool.{eqb-true, eq-eqb}
 use Rattle.hg_graph.specs.Valid.{IsAncestor, of_child}
-use Rattle.hg_valid.specs.Ancestors.{IsAtOrAbove}
+use Rattle.hg_valid.specs.code.Ancestors.{IsAtOrAbove}
 use Rattle.hg_valid.proofs.Up.{up, ancestor_in, at_most, parent_or}
 use Rattle.hg_valid.proofs.ancestors.is_ancestor.Goals as goal
 

@@ -1,6 +1,6 @@
 use Rattle.std.proofs.Common.{◌<◌, length}
 use Rattle.hg_graph.specs.Valid.{IsAncestor}
-use Rattle.hg_valid.specs.Ancestors.{IsAtOrAbove}
+use Rattle.hg_valid.specs.code.Ancestors.{IsAtOrAbove}
 use Rattle.hg_valid.proofs.ancestors.is_ancestor.Given as goal
 
 -- the way up has come to an ancestor of the node, and the one that is looked for is there or further up

@@ -1,7 +1,7 @@
 use Rattle.std.proofs.Common.{◌≡◌, ◌∙◌, Some, sym, ap, subst}
 use Rattle.hg_graph.specs.Graph.{feeder, static_input}
 use Rattle.hg_graph.specs.View.{port_view}
-use Rattle.hg_valid.specs.Parts.{IsFunctionOf}
+use Rattle.hg_valid.specs.code.Parts.{IsFunctionOf}
 use Rattle.hg_valid.proofs.PortLinks.{feeder_in}
 use Rattle.hg_valid.proofs.Statics.{callee_made, callee_is, static_at}
 use Rattle.hg_valid.proofs.blocks.has_callee.Goals as goal

@@ -1,6 +1,6 @@
 use Rattle.std.proofs.Common.{◌<◌}
 use Rattle.hg_graph.specs.Valid.{Rule, number_of}
-use Rattle.hg_valid.specs.Broken.{AllKeep}
+use Rattle.hg_valid.specs.code.Broken.{AllKeep}
 use Rattle.hg_valid.proofs.broken.first_broken.Given as goal
 
 -- each rule before this one holds

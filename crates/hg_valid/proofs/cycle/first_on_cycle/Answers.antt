@@ -1,6 +1,6 @@
 use Rattle.std.proofs.Common.{◌≡◌, ◌<◌, ℕ, List, length, sym, subst, arith}
-use Rattle.hg_paths.specs.Reach.{IsFirstBack, NoneBack}
-use Rattle.hg_valid.specs.Successors.{AreSuccessors}
+use Rattle.walks.specs.Cycles.{IsFirstBack, NoneBack}
+use Rattle.hg_valid.specs.code.Successors.{AreSuccessors}
 use Rattle.hg_valid.proofs.Edges.{closed_successors, path_of, walk_of}
 use Rattle.hg_valid.proofs.cycle.first_on_cycle.Goals as goal
 

@@ -1,7 +1,7 @@
 use Rattle.std.proofs.Common.{◌≡◌, ◌+◌, ◌-◌, ◌<◌, ℕ, suc, List, Bool, length, ◌∙◌, sym, ap, subst, slice_set, true, false, arith}
 use Rattle.std.proofs.lemmas.List.{get_or_read}
-use Rattle.hg_paths.specs.Chains.{is_marked}
-use Rattle.hg_valid.specs.Effects.{AreCarried}
+use Rattle.walks.specs.Counts.{is_marked}
+use Rattle.hg_valid.specs.code.Effects.{AreCarried}
 use Rattle.hg_valid.proofs.EffectNodes.{carried_past, carried_on, carried_all}
 use Rattle.hg_valid.proofs.effects.effects_of.Goals as goal
 use Rattle.hg_valid.proofs.effects.effects_of.Goals.{then-index, else-index}

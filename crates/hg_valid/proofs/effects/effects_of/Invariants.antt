@@ -1,5 +1,5 @@
 use Rattle.std.proofs.Common.{◌-◌}
-use Rattle.hg_valid.specs.Effects.{AreCarried}
+use Rattle.hg_valid.specs.code.Effects.{AreCarried}
 use Rattle.hg_valid.proofs.effects.effects_of.Given as goal
 
 -- the marks of the last nodes are carried

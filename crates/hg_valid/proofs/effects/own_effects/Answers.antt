@@ -3,7 +3,7 @@ use Rattle.std.proofs.lemmas.Bool.{cases_eq}
 use Rattle.std.proofs.lemmas.List.{get_or_push, get_or_append_left}
 use Rattle.hg_ops.specs.Op.{is_effect}
 use Rattle.hg_graph.specs.Graph.{op_at}
-use Rattle.hg_paths.specs.Chains.{is_marked}
+use Rattle.walks.specs.Counts.{is_marked}
 use Rattle.hg_valid.proofs.EffectNodes.{own_marks}
 use Rattle.hg_valid.proofs.effects.own_effects.Goals as goal
 

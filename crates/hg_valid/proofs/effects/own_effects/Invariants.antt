@@ -1,7 +1,7 @@
 use Rattle.std.proofs.Common.{◌≡◌, ◌<◌, ℕ, length}
 use Rattle.hg_ops.specs.Op.{is_effect}
 use Rattle.hg_graph.specs.Graph.{op_at}
-use Rattle.hg_paths.specs.Chains.{is_marked}
+use Rattle.walks.specs.Counts.{is_marked}
 use Rattle.hg_valid.proofs.effects.own_effects.Given as goal
 
 -- a mark for each node so far

@@ -1,7 +1,7 @@
 use Rattle.std.proofs.Common.{◌≤◌, length, subst, arith}
 use Rattle.std.specs.Option.{option_map}
 use Rattle.hg_graph.specs.View.{number_of}
-use Rattle.hg_valid.specs.LinkRules.{LeastTarget}
+use Rattle.hg_valid.specs.code.LinkRules.{LeastTarget}
 use Rattle.hg_valid.proofs.ByPlace.{take_all}
 use Rattle.hg_valid.proofs.Targets.{first_of_links}
 use Rattle.hg_valid.proofs.links.first_target.Goals as goal

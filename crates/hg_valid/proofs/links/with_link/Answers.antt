@@ -2,7 +2,7 @@ use Rattle.std.proofs.Common.{◌++◌, ◌∷◌, [], take, refl, sym, subst}
 use Rattle.std.specs.Option.{option_map}
 use Rattle.hg_graph.specs.View.{link_view, number_of}
 use Rattle.hg_laws.proofs.Children.{get_in}
-use Rattle.hg_valid.specs.LinkRules.{LeastTarget, IsLeastTarget}
+use Rattle.hg_valid.specs.code.LinkRules.{LeastTarget, IsLeastTarget}
 use Rattle.hg_valid.proofs.ByPlace.{take_plus}
 use Rattle.hg_valid.proofs.Targets.{least_same, least_more}
 use Rattle.hg_valid.proofs.links.with_link.Goals as goal

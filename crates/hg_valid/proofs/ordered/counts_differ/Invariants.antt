@@ -1,5 +1,5 @@
 use Rattle.std.proofs.Common.{◌≡◌, ◌+◌, ◌≤◌, ℕ, length, slice_index}
-use Rattle.hg_valid.specs.Regions.{ApartBelow}
+use Rattle.hg_valid.specs.code.Regions.{ApartBelow}
 use Rattle.hg_valid.proofs.ordered.counts_differ.Given as goal
 
 -- the regions so far have no two marked children of one count

@@ -1,8 +1,8 @@
 use Rattle.std.proofs.Common.{◌≡◌, ◌≢◌, ◌<◌, ◌+◌, ℕ, List, Bool, length, get_or, sym, ap, subst, slice_set, ◌∙◌, true, false, arith}
 use Rattle.std.proofs.lemmas.List.{get_or_read, length-set}
 use Rattle.hg_graph.specs.Graph.{children}
-use Rattle.hg_paths.specs.Chains.{is_marked}
-use Rattle.hg_valid.specs.Regions.{IsSeen, child_at}
+use Rattle.walks.specs.Counts.{is_marked}
+use Rattle.hg_valid.specs.code.Regions.{IsSeen, child_at}
 use Rattle.hg_valid.proofs.RegionCounts.{seen_past, seen_on, seen_same, seen_all}
 use Rattle.hg_valid.proofs.ordered.counts_differ_in.Goals as goal
 use Rattle.hg_valid.proofs.ordered.counts_differ_in.Goals.{then-marks-child+else-index-region, else-marks-child}

@@ -1,5 +1,5 @@
 use Rattle.std.proofs.Common.{◌≡◌, length}
-use Rattle.hg_valid.specs.Regions.{IsSeen}
+use Rattle.hg_valid.specs.code.Regions.{IsSeen}
 use Rattle.hg_valid.proofs.ordered.counts_differ_in.Given as goal
 
 -- the children so far have been seen

@@ -1,7 +1,7 @@
 use Rattle.std.proofs.Common.{ℕ, List, sym, subst}
 use Rattle.hg_graph.specs.Valid.{IsValid, Places}
-use Rattle.hg_paths.specs.Walks.{IsClosed}
-use Rattle.hg_paths.specs.Chains.{HasCycle}
+use Rattle.walks.specs.Walks.{IsClosed}
+use Rattle.walks.specs.Cycles.{HasCycle}
 use Rattle.hg_valid.proofs.Edges.{closed_successors}
 use Rattle.hg_valid.proofs.RegionCounts.{HasTested, tested_order, tested_runs, no_cycle}
 use Rattle.hg_valid.proofs.ordered.is_ordered.Goals as goal
@@ -19,7 +19,7 @@ longest_chains-requires-clause-closed c =
 pub unreachable-requires : goal.unreachable-requires
 unreachable-requires c =
     let V : IsValid c.graph-graph.result.now = subst IsValid (sym c.graph-graph.ensures.same) c.graph-graph.ensures.valid in
-    no_cycle c.graph-graph.result.now V _ c.in_ok-successors.ensures (subst (λ (xs : List (List ℕ)). HasCycle xs) c.deref.ensures.value (rw c.in-None.is at c.in_ok-counts.ensures))
+    no_cycle c.graph-graph.result.now V _ c.in_ok-successors.ensures (subst (λ (xs : List (List ℕ)). HasCycle xs) c.deref.ensures.value (rw c.in-None.is at c.in_ok-counts.ensures.exact))
 
 pub returns-clause-ordered : goal.returns-clause-ordered
 returns-clause-ordered c =
@@ -28,7 +28,7 @@ returns-clause-ordered c =
       given_is = c.graph-graph.ensures.same;
       successors = rw c.graph-graph.ensures.same at c.in_ok-successors.ensures;
       effects = rw c.graph-graph.ensures.same at c.in_ok-marks.ensures;
-      counted = rw c.in-Some.is at c.in_ok-counts.ensures;
+      counted = rw c.in-Some.is at c.in_ok-counts.ensures.counts;
       lists_are = c.deref.ensures.value;
       marks_are = c.deref-2.ensures.value;
       marks_again = c.deref-in-Some.ensures.value;
@@ -43,7 +43,7 @@ returns-clause-runs c =
       given_is = c.graph-graph.ensures.same;
       successors = rw c.graph-graph.ensures.same at c.in_ok-successors.ensures;
       effects = rw c.graph-graph.ensures.same at c.in_ok-marks.ensures;
-      counted = rw c.in-Some.is at c.in_ok-counts.ensures;
+      counted = rw c.in-Some.is at c.in_ok-counts.ensures.counts;
       lists_are = c.deref.ensures.value;
       marks_are = c.deref-2.ensures.value;
       marks_again = c.deref-in-Some.ensures.value;

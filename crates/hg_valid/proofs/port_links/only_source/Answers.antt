@@ -2,10 +2,10 @@ use Rattle.std.proofs.Common.{◌≡◌, ◌≢◌, ◌∙◌, ℕ, ◌∷◌, [
 use Rattle.std.specs.Option.{option_map, IfSome, IfNone}
 use Rattle.hg_graph.specs.Graph.{Graph, Port, IsGraph, links_into}
 use Rattle.hg_graph.specs.NodeIndex.{numbers_into}
-use Rattle.hg_graph.specs.Sources.{source_of}
+use Rattle.hg_graph.specs.code.Sources.{source_of}
 use Rattle.hg_graph.specs.View.{port_view}
 use Rattle.hg_graph.specs.declared.link.Port as declared
-use Rattle.hg_valid.specs.Parts.{IsOnlySource}
+use Rattle.hg_valid.specs.code.Parts.{IsOnlySource}
 use Rattle.hg_valid.proofs.PortLinks.{length-numbers_into, only_source, some_source}
 use Rattle.hg_valid.proofs.port_links.only_source.Goals as goal
 

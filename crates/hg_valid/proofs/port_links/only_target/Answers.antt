@@ -4,7 +4,7 @@ use Rattle.hg_graph.specs.Graph.{Graph, Port, IsGraph, links_from}
 use Rattle.hg_graph.specs.NodeIndex.{numbers_from}
 use Rattle.hg_graph.specs.View.{port_view}
 use Rattle.hg_graph.specs.declared.link.Port as declared
-use Rattle.hg_valid.specs.Parts.{target_of, IsOnlyTarget}
+use Rattle.hg_valid.specs.code.Parts.{target_of, IsOnlyTarget}
 use Rattle.hg_valid.proofs.PortLinks.{length-numbers_from, only_target, some_target}
 use Rattle.hg_valid.proofs.port_links.only_target.Goals as goal
 

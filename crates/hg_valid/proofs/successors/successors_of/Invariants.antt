@@ -1,4 +1,4 @@
-use Rattle.hg_valid.specs.Successors.{HasEdges}
+use Rattle.hg_valid.specs.code.Successors.{HasEdges}
 use Rattle.hg_valid.proofs.successors.successors_of.Given as goal
 
 -- the first links have been added

@@ -5,7 +5,7 @@ use Rattle.hg_graph.specs.declared.link.Link as declared
 use Rattle.hg_graph.specs.Graph.{Graph, feeder}
 use Rattle.hg_graph.specs.NodeIndex.{NodeIndex, node_index, input_count, numbers_into}
 use Rattle.hg_graph.specs.NodeView.{graph_view, node_view}
-use Rattle.hg_graph.specs.Sources.{source_of}
+use Rattle.hg_graph.specs.code.Sources.{source_of}
 use Rattle.hg_graph.specs.View.{port_view, link_view}
 use Rattle.hg_graph.proofs.Readers.{feeder-out, feeder-strays, first-feeder, length-inputs, input_at}
 use Rattle.hg_graph.proofs.graph.Graph.feeder.Goals as goal

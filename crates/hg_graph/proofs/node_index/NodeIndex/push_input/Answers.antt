@@ -2,7 +2,7 @@ use Rattle.std.proofs.Common.{◌≡◌, ◌≤◌, ◌++◌, ◌∷◌, ◌∙�
 use Rattle.std.proofs.lemmas.List.{map-append}
 use Rattle.hg_graph.specs.Graph.{Link}
 use Rattle.hg_graph.specs.NodeIndex as spec
-use Rattle.hg_graph.specs.NodeIndexView.{node_index_view}
+use Rattle.hg_graph.specs.code.NodeIndexView.{node_index_view}
 use Rattle.hg_graph.specs.View.{link_view}
 use Rattle.hg_graph.proofs.Pushed.{with_input-past}
 use Rattle.hg_graph.proofs.node_index.NodeIndex.push_input.Goals as goal

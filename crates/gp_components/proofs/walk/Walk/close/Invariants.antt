@@ -1,6 +1,0 @@
-use Rattle.std.proofs.Common.{◌≡◌, length}
-use Rattle.gp_components.proofs.walk.Walk.close.Given as goal
-
--- there are as many numbers as before
-abbrev pub invariant-loop : goal.invariant-loop
-invariant-loop l = length l.self.numbers.items ≡ length l.fn.self.numbers.items

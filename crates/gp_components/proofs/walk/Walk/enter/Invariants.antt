@@ -1,6 +1,0 @@
-use Rattle.std.proofs.Common.{◌≡◌, length}
-use Rattle.gp_components.proofs.walk.Walk.enter.Given as goal
-
--- there are as many numbers as before
-abbrev pub invariant-loop-next : goal.invariant-loop-next
-invariant-loop-next l = length l.self.numbers.items ≡ length l.fn.self.numbers.items

@@ -1,7 +1,0 @@
-use Rattle.std.proofs.Common.{◌≡◌, [], map, drop}
-use Rattle.gp_environment.specs.Locals.{with_names, parameter_name}
-use Rattle.gp_environment.proofs.locals.locals_of.Given as goal
-
--- with the parameters that are left, those of all
-abbrev pub invariant-loop-param : goal.invariant-loop-param
-invariant-loop-param l = with_names l.names (map parameter_name (drop l.param-index l.params)) ≡ with_names [] (map parameter_name l.params)

@@ -1,6 +1,0 @@
-use Rattle.std.proofs.Common.{◌≡◌, map, take}
-use Rattle.gp_environment.specs.View.{usable_view}
-use Rattle.gp_environment.proofs.usable.copy_usable.Given as goal
-
-abbrev pub invariant-loop-name : goal.invariant-loop-name
-invariant-loop-name l = map usable_view l.made.items ≡ map usable_view (take l.name-index l.usable)

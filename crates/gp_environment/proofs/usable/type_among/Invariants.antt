@@ -1,8 +1,0 @@
-use Rattle.std.proofs.Common.{◌≡◌, map, drop}
-use Rattle.gp_environment.specs.Usable as spec
-use Rattle.gp_environment.specs.View.{usable_view}
-use Rattle.gp_environment.proofs.usable.type_among.Given as goal
-
--- those that are left decide
-abbrev pub invariant-loop-name : goal.invariant-loop-name
-invariant-loop-name l = spec.type_among l.position (map usable_view (drop l.name-index l.usable)) ≡ spec.type_among l.position (map usable_view l.usable)

@@ -1,5 +1,0 @@
-pub mod Environment
-pub mod Locals
-pub mod Usable
-pub mod TypeCode
-pub mod View

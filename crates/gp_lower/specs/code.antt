@@ -1,0 +1,2 @@
+-- What follows the code: no public contract cites it.
+pub mod Growing

@@ -1,5 +1,0 @@
-use Rattle.gp_nest.proofs.NestingLaws.{never_both_holds}
-use Rattle.gp_nest.proofs.laws.never_both.Goals as goal
-
-pub returns : goal.returns
-returns c = never_both_holds

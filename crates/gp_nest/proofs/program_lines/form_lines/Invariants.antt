@@ -1,7 +1,0 @@
-use Rattle.std.proofs.Common.{map, take}
-use Rattle.gp_nest.specs.NestingViews.{line_of}
-use Rattle.gp_nest.specs.Programs.{HaveForms}
-use Rattle.gp_nest.proofs.program_lines.form_lines.Given as goal
-
-abbrev pub invariant-loop-line : goal.invariant-loop-line
-invariant-loop-line l = HaveForms (take l.line-index l.lines) (map line_of l.forms.items)

@@ -1,0 +1,14 @@
+pub mod Call
+pub mod Compile
+pub mod GraphTexts
+pub mod Input
+pub mod Made
+pub mod Migration
+pub mod Modes
+pub mod OneAnswer
+pub mod Refusal
+pub mod RunDue
+pub mod Status
+pub mod Validity
+pub mod WordsFile
+pub mod code

@@ -1,4 +1,0 @@
-pub mod WalkLemmas
-mod Searches
-mod Reached
-mod LevelLemmas

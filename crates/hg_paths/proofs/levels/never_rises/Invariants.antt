@@ -1,6 +1,0 @@
-use Rattle.hg_paths.specs.Levels.{NeverRises}
-use Rattle.hg_paths.proofs.levels.never_rises.Given as goal
-
--- no link of the nodes so far leads to a higher level
-abbrev pub invariant-loop-node : goal.invariant-loop-node
-invariant-loop-node l = NeverRises l.successors l.levels l.node

@@ -1,4 +1,0 @@
-pub mod Walks
-pub mod Chains
-pub mod Reach
-pub mod Levels

@@ -1,0 +1,5 @@
+pub mod WalkLemmas
+pub mod CountLemmas
+mod Searches
+mod Reached
+mod LevelLemmas

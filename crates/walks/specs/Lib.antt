@@ -1,0 +1,4 @@
+pub mod Walks
+pub mod Counts
+pub mod Cycles
+pub mod code

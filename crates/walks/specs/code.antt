@@ -1,0 +1,4 @@
+-- What the searches keep while they run. No public contract cites these.
+pub mod Levels
+pub mod Reach
+pub mod Search

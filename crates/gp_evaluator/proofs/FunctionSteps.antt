@@ -8,7 +8,6 @@ use Rattle.gp_tree.specs.declared.program.Item.{Item}
 use Rattle.gp_tree.specs.declared.program.Item.TheVariants as item
 use Rattle.gp_types.specs.Signature.{Parameter, parameter_view, parameter_names, is_borrowed_mode}
 use Rattle.gp_types.specs.declared.signature.SigParam.{SigParam}
-
 use Rattle.gp_evaluator.specs.Evaluation.{final_of}
 use Rattle.gp_meaning.specs.Meaning.{finals_of, with_final}
 use Rattle.gp_meaning.specs.State.{Variables, variable, set, set_each}

@@ -87,9 +87,9 @@ module _ (F : Frame) (R : Rest) where
       → executed_each F R (statements (drop i ss)) s ≡ Stopped why t
   block_err ss i x s t why h is e = block_step ss i x s h is ∙ ap (λ o. go_on o (on_normal (executed_each F R (statements (drop (suc i) ss))))) e
 
-  pub block_next : (ss : List Stmt) (i : ℕ) (x : Stmt) (s t : State) (flow : Completion) → i < length ss → x ≡ get_or ss i x → executed F R (statement x) s ≡ Returned flow t → flow ≡ Normal
+  pub block_next : (ss : List Stmt) (i : ℕ) (x : Stmt) (s t : State) (completion : Completion) → i < length ss → x ≡ get_or ss i x → executed F R (statement x) s ≡ Returned completion t → completion ≡ Normal
       → executed_each F R (statements (drop i ss)) s ≡ executed_each F R (statements (drop (i + 1) ss)) t
-  block_next ss i x s t flow h is e n =
+  block_next ss i x s t completion h is e n =
       block_step ss i x s h is ∙ ap (λ o. go_on o (on_normal (executed_each F R (statements (drop (suc i) ss))))) e
       ∙ ap (λ (z : Completion). on_normal (executed_each F R (statements (drop (suc i) ss))) z t) n ∙ ap (λ (k : ℕ). executed_each F R (statements (drop k ss)) t) (sym (add-one i))
 
@@ -98,10 +98,10 @@ module _ (F : Frame) (R : Rest) where
   is_next Normal = true
   is_next _ = false
 
-  pub block_other : (ss : List Stmt) (i : ℕ) (x : Stmt) (s t : State) (flow : Completion) → i < length ss → x ≡ get_or ss i x → executed F R (statement x) s ≡ Returned flow t → is_next flow ≡ false
-      → executed_each F R (statements (drop i ss)) s ≡ Returned flow t
-  block_other ss i x s t flow h is e n = block_step ss i x s h is ∙ ap (λ o. go_on o (on_normal (executed_each F R (statements (drop (suc i) ss))))) e ∙ other flow n where
-    other : (flow : Completion) → is_next flow ≡ false → on_normal (executed_each F R (statements (drop (suc i) ss))) flow t ≡ Returned flow t
+  pub block_other : (ss : List Stmt) (i : ℕ) (x : Stmt) (s t : State) (completion : Completion) → i < length ss → x ≡ get_or ss i x → executed F R (statement x) s ≡ Returned completion t → is_next completion ≡ false
+      → executed_each F R (statements (drop i ss)) s ≡ Returned completion t
+  block_other ss i x s t completion h is e n = block_step ss i x s h is ∙ ap (λ o. go_on o (on_normal (executed_each F R (statements (drop (suc i) ss))))) e ∙ other completion n where
+    other : (completion : Completion) → is_next completion ≡ false → on_normal (executed_each F R (statements (drop (suc i) ss))) completion t ≡ Returned completion t
     other Normal n = absurd cc
     other Break n = refl
     other Continue n = refl
@@ -109,17 +109,17 @@ module _ (F : Frame) (R : Rest) where
 
 -- ---- loops
 
-after_is : (again : Run State Completion) (flow : Completion) (s : State) → after_body again flow s ≡ (if goes_back flow then (on_world take_turn >>= λ _. again) else ret (after_loop flow)) s
+after_is : (again : Run State Completion) (completion : Completion) (s : State) → after_body again completion s ≡ (if goes_back completion then (on_world take_turn >>= λ _. again) else ret (after_loop completion)) s
 after_is again Normal s = refl
 after_is again Continue s = refl
 after_is again Break s = refl
 after_is again (Return v) s = refl
 
-back : (again : Run State Completion) (flow : Completion) (s : State) → goes_back flow ≡ true → after_body again flow s ≡ (on_world take_turn >>= λ _. again) s
-back again flow s g = after_is again flow s ∙ ap (λ (b : Bool). (if b then (on_world take_turn >>= λ _. again) else ret (after_loop flow)) s) g
+back : (again : Run State Completion) (completion : Completion) (s : State) → goes_back completion ≡ true → after_body again completion s ≡ (on_world take_turn >>= λ _. again) s
+back again completion s g = after_is again completion s ∙ ap (λ (b : Bool). (if b then (on_world take_turn >>= λ _. again) else ret (after_loop completion)) s) g
 
-leaves_loop : (again : Run State Completion) (flow : Completion) (s : State) → goes_back flow ≡ false → after_body again flow s ≡ Returned (after_loop flow) s
-leaves_loop again flow s g = after_is again flow s ∙ ap (λ (b : Bool). (if b then (on_world take_turn >>= λ _. again) else ret (after_loop flow)) s) g
+leaves_loop : (again : Run State Completion) (completion : Completion) (s : State) → goes_back completion ≡ false → after_body again completion s ≡ Returned (after_loop completion) s
+leaves_loop again completion s g = after_is again completion s ∙ ap (λ (b : Bool). (if b then (on_world take_turn >>= λ _. again) else ret (after_loop completion)) s) g
 
 turn_taken : (again : Run State Completion) (vs : Variables) (w v : World) → take_turn w ≡ Returned tt v → (on_world take_turn >>= λ _. again) (state vs w) ≡ again (state vs v)
 turn_taken again vs w v e = ap (λ (o : Out World (Unit {0})). go_on (with_variables vs o) (λ _. again)) e
@@ -146,21 +146,21 @@ module _ (P : Source) (F : Frame) (c : Expression) (body : Statements) (s : Stat
   pub while_body_err : (t u : State) (why : Stop) → truth (evaluated F R.call c) s ≡ Returned true t → executed_each F R body t ≡ Stopped why u → looped F R c body s ≡ Stopped why u
   while_body_err t u why e f = while_in_body t e ∙ ap (λ o. go_on o (after_body (R.again F c body))) f
 
-  while_behind : (t u : State) (flow : Completion) → truth (evaluated F R.call c) s ≡ Returned true t → executed_each F R body t ≡ Returned flow u → looped F R c body s ≡ after_body (R.again F c body) flow u
-  while_behind t u flow e f = while_in_body t e ∙ ap (λ o. go_on o (after_body (R.again F c body))) f
+  while_behind : (t u : State) (completion : Completion) → truth (evaluated F R.call c) s ≡ Returned true t → executed_each F R body t ≡ Returned completion u → looped F R c body s ≡ after_body (R.again F c body) completion u
+  while_behind t u completion e f = while_in_body t e ∙ ap (λ o. go_on o (after_body (R.again F c body))) f
 
-  pub while_left : (t u : State) (flow : Completion) → truth (evaluated F R.call c) s ≡ Returned true t → executed_each F R body t ≡ Returned flow u → goes_back flow ≡ false
-      → looped F R c body s ≡ Returned (after_loop flow) u
-  while_left t u flow e f g = while_behind t u flow e f ∙ leaves_loop (R.again F c body) flow u g
+  pub while_left : (t u : State) (completion : Completion) → truth (evaluated F R.call c) s ≡ Returned true t → executed_each F R body t ≡ Returned completion u → goes_back completion ≡ false
+      → looped F R c body s ≡ Returned (after_loop completion) u
+  while_left t u completion e f g = while_behind t u completion e f ∙ leaves_loop (R.again F c body) completion u g
 
-  pub while_no_turn : (t : State) (vs : Variables) (w v : World) (flow : Completion) (why : Stop) → truth (evaluated F R.call c) s ≡ Returned true t → executed_each F R body t ≡ Returned flow (state vs w)
-      → goes_back flow ≡ true → take_turn w ≡ Stopped why v → looped F R c body s ≡ Stopped why (state vs v)
-  while_no_turn t vs w v flow why e f g h = while_behind t (state vs w) flow e f ∙ back (R.again F c body) flow (state vs w) g ∙ turn_missing (R.again F c body) vs w v why h
+  pub while_no_turn : (t : State) (vs : Variables) (w v : World) (completion : Completion) (why : Stop) → truth (evaluated F R.call c) s ≡ Returned true t → executed_each F R body t ≡ Returned completion (state vs w)
+      → goes_back completion ≡ true → take_turn w ≡ Stopped why v → looped F R c body s ≡ Stopped why (state vs v)
+  while_no_turn t vs w v completion why e f g h = while_behind t (state vs w) completion e f ∙ back (R.again F c body) completion (state vs w) g ∙ turn_missing (R.again F c body) vs w v why h
 
-  pub while_round : (t : State) (vs : Variables) (w v : World) (flow : Completion) → truth (evaluated F R.call c) s ≡ Returned true t → executed_each F R body t ≡ Returned flow (state vs w)
-      → goes_back flow ≡ true → take_turn w ≡ Returned tt v → looped F R c body s ≡ looped F R c body (state vs v)
-  while_round t vs w v flow e f g h =
-      while_behind t (state vs w) flow e f ∙ back (R.again F c body) flow (state vs w) g ∙ turn_taken (R.again F c body) vs w v h ∙ while_again P F c body (state vs v)
+  pub while_round : (t : State) (vs : Variables) (w v : World) (completion : Completion) → truth (evaluated F R.call c) s ≡ Returned true t → executed_each F R body t ≡ Returned completion (state vs w)
+      → goes_back completion ≡ true → take_turn w ≡ Returned tt v → looped F R c body s ≡ looped F R c body (state vs v)
+  while_round t vs w v completion e f g h =
+      while_behind t (state vs w) completion e f ∙ back (R.again F c body) completion (state vs w) g ∙ turn_taken (R.again F c body) vs w v h ∙ while_again P F c body (state vs v)
 
 module _ (P : Source) (F : Frame) (name : List ℕ) (body : Statements) (n limit : ℤ) (vs : Variables) (w : World) where
   abbrev next_count : Run State Completion
@@ -178,18 +178,18 @@ module _ (P : Source) (F : Frame) (name : List ℕ) (body : Statements) (n limit
   pub for_body_err : (u : State) (why : Stop) → int_lt n limit ≡ true → executed_each F (rest_in P) body with_count ≡ Stopped why u → counted F (rest_in P) name body n limit (state vs w) ≡ Stopped why u
   for_body_err u why h f = for_in_body h ∙ ap (λ o. go_on o (after_body next_count)) f
 
-  for_behind : (u : State) (flow : Completion) → int_lt n limit ≡ true → executed_each F (rest_in P) body with_count ≡ Returned flow u → counted F (rest_in P) name body n limit (state vs w) ≡ after_body next_count flow u
-  for_behind u flow h f = for_in_body h ∙ ap (λ o. go_on o (after_body next_count)) f
+  for_behind : (u : State) (completion : Completion) → int_lt n limit ≡ true → executed_each F (rest_in P) body with_count ≡ Returned completion u → counted F (rest_in P) name body n limit (state vs w) ≡ after_body next_count completion u
+  for_behind u completion h f = for_in_body h ∙ ap (λ o. go_on o (after_body next_count)) f
 
-  pub for_left : (u : State) (flow : Completion) → int_lt n limit ≡ true → executed_each F (rest_in P) body with_count ≡ Returned flow u → goes_back flow ≡ false
-      → counted F (rest_in P) name body n limit (state vs w) ≡ Returned (after_loop flow) u
-  for_left u flow h f g = for_behind u flow h f ∙ leaves_loop next_count flow u g
+  pub for_left : (u : State) (completion : Completion) → int_lt n limit ≡ true → executed_each F (rest_in P) body with_count ≡ Returned completion u → goes_back completion ≡ false
+      → counted F (rest_in P) name body n limit (state vs w) ≡ Returned (after_loop completion) u
+  for_left u completion h f g = for_behind u completion h f ∙ leaves_loop next_count completion u g
 
-  pub for_no_turn : (us : Variables) (x v : World) (flow : Completion) (why : Stop) → int_lt n limit ≡ true → executed_each F (rest_in P) body with_count ≡ Returned flow (state us x)
-      → goes_back flow ≡ true → take_turn x ≡ Stopped why v → counted F (rest_in P) name body n limit (state vs w) ≡ Stopped why (state us v)
-  for_no_turn us x v flow why h f g e = for_behind (state us x) flow h f ∙ back next_count flow (state us x) g ∙ turn_missing next_count us x v why e
+  pub for_no_turn : (us : Variables) (x v : World) (completion : Completion) (why : Stop) → int_lt n limit ≡ true → executed_each F (rest_in P) body with_count ≡ Returned completion (state us x)
+      → goes_back completion ≡ true → take_turn x ≡ Stopped why v → counted F (rest_in P) name body n limit (state vs w) ≡ Stopped why (state us v)
+  for_no_turn us x v completion why h f g e = for_behind (state us x) completion h f ∙ back next_count completion (state us x) g ∙ turn_missing next_count us x v why e
 
-  pub for_round : (us : Variables) (x v : World) (flow : Completion) → int_lt n limit ≡ true → executed_each F (rest_in P) body with_count ≡ Returned flow (state us x)
-      → goes_back flow ≡ true → take_turn x ≡ Returned tt v → counted F (rest_in P) name body n limit (state vs w) ≡ counted F (rest_in P) name body (n +ℤ pos 1) limit (state us v)
-  for_round us x v flow h f g e =
-      for_behind (state us x) flow h f ∙ back next_count flow (state us x) g ∙ turn_taken next_count us x v e ∙ for_again P F name body (n +ℤ pos 1) limit (state us v)
+  pub for_round : (us : Variables) (x v : World) (completion : Completion) → int_lt n limit ≡ true → executed_each F (rest_in P) body with_count ≡ Returned completion (state us x)
+      → goes_back completion ≡ true → take_turn x ≡ Returned tt v → counted F (rest_in P) name body n limit (state vs w) ≡ counted F (rest_in P) name body (n +ℤ pos 1) limit (state us v)
+  for_round us x v completion h f g e =
+      for_behind (state us x) completion h f ∙ back next_count completion (state us x) g ∙ turn_taken next_count us x v e ∙ for_again P F name body (n +ℤ pos 1) limit (state us v)

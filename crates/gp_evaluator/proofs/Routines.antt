@@ -39,8 +39,8 @@ module _ (items : List Item) (scope : Scope) (name : List ℕ) (vs : List Value)
       call_again (source_in items scope) name vs w ∙ ap (λ (o : Option FunctionDefinition). ran_named known (routine_with o (known.signature_of name)) (rest_of items scope) vs w) e
       ∙ ap (λ (o : Option Signature). ran_named known (routine_with (Some f) o) (rest_of items scope) vs w) g
       ∙ ap (λ (ns : Names).
-        without_variables
-        ((executed_each (record { known = known; names = ns }) (rest_of items scope) f.body >>= ends_by ns s.params) (state (set_each ns (no_variables ns) (parameter_names s.params) vs) w)))
+      without_variables
+      ((executed_each (record { known = known; names = ns }) (rest_of items scope) f.body >>= ends_by ns s.params) (state (set_each ns (no_variables ns) (parameter_names s.params) vs) w)))
       (sym n)
       ∙ ap (λ (z : Variables). without_variables ((executed_each (record { known = known; names = names }) (rest_of items scope) f.body >>= ends_by names s.params) (state z w))) (sym b)
 

@@ -14,7 +14,6 @@ use Rattle.gp_evaluator.specs.declared.completion.Completion.TheVariants as comp
 use Rattle.gp_evaluator.specs.declared.frame.Frame as declared_frame
 use Rattle.gp_evaluator.specs.declared.variables.Variables as declared_variables
 use Rattle.gp_evaluator.specs.declared.world.World as declared_world
-
 use Rattle.gp_meaning.specs.Meaning.{Frame, Completion, Normal, Break, Continue, Return, Rest, needed, truth, evaluated, evaluated_each, executed, executed_each, looped, counted, routines_of}
 use Rattle.gp_meaning.specs.Runs.{Source, function_in, while_in, for_in}
 use Rattle.gp_meaning.specs.State.{State, Variables, variable}

@@ -9,27 +9,27 @@ use crate::value::Value;
 #[derive(Drop)]
 pub enum Completion {
     /// The next statement follows.
-    Next,
+    Normal,
     /// By `break`.
-    Broke,
+    Break,
     /// By `continue`.
-    Continued,
+    Continue,
     /// By `return`, with its value where it has one.
-    Answered(Option<Value>),
+    Return(Option<Value>),
 }
 
 /// Whether a loop goes back to its head where its body ends so.
-pub fn goes_back(flow: &Completion) -> bool
-    ensures { result ≡ spec.goes_back (spec.completion_view flow.now) }
+pub fn goes_back(completion: &Completion) -> bool
+    ensures { result ≡ spec.goes_back (spec.completion_view completion.now) }
 {
-    matches!(flow, Completion::Normal | Completion::Continue)
+    matches!(completion, Completion::Normal | Completion::Continue)
 }
 
 /// How a loop ends that doesn't go back to its head, where its body ends so.
-pub fn after_loop(flow: Completion) -> Completion
-    ensures { spec.completion_view result ≡ spec.after_loop (spec.completion_view flow) }
+pub fn after_loop(completion: Completion) -> Completion
+    ensures { spec.completion_view result ≡ spec.after_loop (spec.completion_view completion) }
 {
-    match flow {
+    match completion {
         Completion::Return(value) => Completion::Return(value),
         Completion::Normal | Completion::Break | Completion::Continue => Completion::Normal,
     }

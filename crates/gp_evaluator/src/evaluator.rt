@@ -15,18 +15,17 @@ ghost use Rattle.gp_evaluator.specs.View.{value_view, variables_view, world_view
 
 use crate::built_ins::{Called, perform};
 use crate::calls::{make_struct, put_back_each, tag_of};
-use crate::counter::Counter;
 use crate::completion::{Completion, after_loop, goes_back};
+use crate::counter::Counter;
 use crate::frame::{Frame, find_function};
 use crate::functions::{begin, leave};
 use crate::halt::Halt;
 use crate::operators::{boolean_of, minus, operate};
-use crate::value::{Value, Values, copy};
+use crate::value::{Value, Values};
 use crate::variables::Variables;
 use crate::world::World;
 use gp_base::Tag;
-use gp_locals::{Callee, find_callee};
-use gp_locals::{Locals, locals_of};
+use gp_locals::{Callee, Locals, find_callee, locals_of};
 use gp_scope::Scope;
 use gp_tree::{Expr, Item, Place, Stmt};
 use std::alloc::Global;
@@ -51,7 +50,7 @@ fn read_place(
     ensures { Found value_view result (value_at names.now (variables_view variables.now) place.now) }
 {
     match variables.value_at(names, place) {
-        Some(value) => Ok(copy(alloc, value)?),
+        Some(value) => Ok(value.copy(alloc)?),
         None => Err(Halt::Stuck),
     }
 }
@@ -261,8 +260,8 @@ pub fn run_function(
         scope,
         names: &names,
     };
-    let flow = execute_block(alloc, &frame, &mut variables, world, &function.body)?;
-    leave(alloc, &names, params, &variables, flow)
+    let completion = execute_block(alloc, &frame, &mut variables, world, &function.body)?;
+    leave(alloc, &names, params, &variables, completion)
 }
 
 #[cycle(evaluator)]
@@ -329,9 +328,9 @@ fn execute_block(
     ensures fewer { world.new.turns ≤ world.old.turns }
 {
     for stmt in block {
-        let flow = execute(alloc, frame, variables, world, stmt)?;
-        if !matches!(flow, Completion::Normal) {
-            return Ok(flow);
+        let completion = execute(alloc, frame, variables, world, stmt)?;
+        if !matches!(completion, Completion::Normal) {
+            return Ok(completion);
         }
     }
     Ok(Completion::Normal)
@@ -350,9 +349,9 @@ fn run_while(
     ensures fewer { world.new.turns ≤ world.old.turns }
 {
     while evaluate_truth(alloc, frame, variables, world, test)? {
-        let flow = execute_block(alloc, frame, variables, world, body)?;
-        if !goes_back(&flow) {
-            return Ok(after_loop(flow));
+        let completion = execute_block(alloc, frame, variables, world, body)?;
+        if !goes_back(&completion) {
+            return Ok(after_loop(completion));
         }
         world.take_turn()?;
     }
@@ -376,9 +375,9 @@ fn run_for(
     let mut counter = counter;
     'rounds: while counter.is_below() {
         variables.set(frame.names, name, counter.value());
-        let flow = execute_block(alloc, frame, variables, world, body)?;
-        if !goes_back(&flow) {
-            return Ok(after_loop(flow));
+        let completion = execute_block(alloc, frame, variables, world, body)?;
+        if !goes_back(&completion) {
+            return Ok(after_loop(completion));
         }
         world.take_turn()?;
         counter.advance();

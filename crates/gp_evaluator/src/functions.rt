@@ -9,7 +9,7 @@ ghost use Rattle.gp_evaluator.specs.View.{value_view, values_view, variables_vie
 use crate::built_ins::Called;
 use crate::completion::Completion;
 use crate::halt::Halt;
-use crate::value::{Value, copy};
+use crate::value::Value;
 use crate::variables::Variables;
 use gp_locals::Locals;
 use gp_types::{Mode, SigParam};
@@ -22,12 +22,12 @@ pub fn begin(
     params: &[SigParam],
     values: &[Value],
 ) -> Result<Variables, AllocError>
-    ensures { IfOk result (λ made. variables_view made ≡ begun names.now (map parameter_view params.now) (map value_view values.now)) }
+    ensures { IfOk result (λ made. variables_view made ≡ entered names.now (map parameter_view params.now) (map value_view values.now)) }
 {
     let mut variables = Variables::new(alloc, names)?;
     for i in 0..params.len() {
         if i < values.len() {
-            let value = copy(alloc, &values[i])?;
+            let value = values[i].copy(alloc)?;
             variables.set(names, params[i].name.as_str(), value);
         }
     }
@@ -47,7 +47,7 @@ fn final_of(
         return Ok(None);
     }
     match variables.get(names, param.name.as_str()) {
-        Some(value) => Ok(Some(copy(alloc, value)?)),
+        Some(value) => Ok(Some(value.copy(alloc)?)),
         None => Err(Halt::Stuck),
     }
 }
@@ -88,11 +88,11 @@ pub fn leave(
     names: &Locals,
     params: &[SigParam],
     variables: &Variables,
-    flow: Completion,
+    completion: Completion,
 ) -> Result<Called, Halt>
-    ensures { RanAlone called_view result (variables_view variables.now) (variables_view variables.now) (ends_by names.now (map parameter_view params.now) (spec.completion_view flow)) }
+    ensures { RanAlone called_view result (variables_view variables.now) (variables_view variables.now) (ends_by names.now (map parameter_view params.now) (spec.completion_view completion)) }
 {
-    match flow {
+    match completion {
         Completion::Normal => leave_with(alloc, names, params, variables, None),
         Completion::Return(answer) => leave_with(alloc, names, params, variables, answer),
         Completion::Break | Completion::Continue => Err(Halt::Stuck),

@@ -17,16 +17,18 @@ returns-in-Ok-append c =
     let scope = c.args.scope.now in
     let w = world_view c.new-world.result in
     let known : function_signature program entry ≡ Some (signature_view c.in-Some.signature.now) = sym (c.requires.signatures_are entry) ∙ sym c.in-Some.ensures in
-    let same = ap (λ items. (rest_of items scope).call entry [] w) c.as_slice.ensures ∙ entry_is c.args.program.now scope entry c.args.turns c.args.outcomes.now w c.requires c.new-world.ensures in
-    (ap fault_of known ∙ ap (λ b. if b then None else Some fault.EntryNotClosed) (sym c.is_closed.ensures ∙ c.if-not-is_closed.false),
-    sym (ap end_of same) ∙ c.in-Ok.ensures.0,
-    c.in-Ok-append.ensures ∙ ap (λ events. c.args.events.now ++ events) (c.into_events.ensures ∙ ap (λ v. v.events) (sym c.in-Ok.ensures.1 ∙ ap world_after same)))
+    let same = ap (λ items. (rest_of items scope).call entry [] w) c.as_slice.ensures ∙ entry_is c.args.program.now scope entry c.args.turns c.args.outcomes.now w c.requires c.new-world.ensures in (
+      ap fault_of known ∙ ap (λ b. if b then None else Some fault.EntryNotClosed) (sym c.is_closed.ensures ∙ c.if-not-is_closed.false),
+      sym (ap end_of same) ∙ c.in-Ok.ensures.0,
+      c.in-Ok-append.ensures ∙ ap (λ events. c.args.events.now ++ events) (c.into_events.ensures ∙ ap (λ v. v.events) (sym c.in-Ok.ensures.1 ∙ ap world_after same)),
+    )
 
 pub returns-in-Err : goal.returns-in-Err
 returns-in-Err c =
     let entry = c.args.entry.now in
     let scope = c.args.scope.now in
     let w = world_view c.new-world.result in
-    let same = ap (λ items. (rest_of items scope).call entry [] w) c.as_slice.ensures ∙ entry_is c.args.program.now scope entry c.args.turns c.args.outcomes.now w c.requires c.new-world.ensures in
-    (c.in-Err.ensures.0,
-    c.in-Err.ensures.1 ∙ ap (λ events. c.args.events.now ++ take c.in-Err.ensures.0 events) (c.into_events.ensures ∙ ap (λ v. v.events) (sym c.in-Ok.ensures.1 ∙ ap world_after same)))
+    let same = ap (λ items. (rest_of items scope).call entry [] w) c.as_slice.ensures ∙ entry_is c.args.program.now scope entry c.args.turns c.args.outcomes.now w c.requires c.new-world.ensures in (
+      c.in-Err.ensures.0,
+      c.in-Err.ensures.1 ∙ ap (λ events. c.args.events.now ++ take c.in-Err.ensures.0 events) (c.into_events.ensures ∙ ap (λ v. v.events) (sym c.in-Ok.ensures.1 ∙ ap world_after same)),
+    )

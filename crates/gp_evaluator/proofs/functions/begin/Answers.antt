@@ -1,7 +1,6 @@
 use Rattle.std.proofs.Common.{◌∙◌, ◌+◌, ap, sym, map, drop, arith}
 use Rattle.std.proofs.lemmas.List.{length-map, get_or-map}
 use Rattle.gp_types.specs.Signature.{parameter_view, parameter_names}
-
 use Rattle.gp_meaning.specs.State.{set, set_each}
 use Rattle.gp_evaluator.specs.View.{value_view, variables_view}
 use Rattle.gp_evaluator.proofs.FunctionSteps.{set_more, set_out}

@@ -1,6 +1,5 @@
 use Rattle.std.proofs.Common.{◌≡◌, map, drop}
 use Rattle.gp_types.specs.Signature.{parameter_view, parameter_names}
-
 use Rattle.gp_meaning.specs.State.{no_variables, set_each}
 use Rattle.gp_evaluator.specs.View.{value_view, variables_view}
 use Rattle.gp_meaning.proofs.functions.begin.Given as goal

@@ -6,18 +6,18 @@ use Rattle.gp_evaluator.specs.View.{value_view, variables_view, called_view, sta
 use Rattle.gp_evaluator.proofs.Steps.{ends}
 use Rattle.gp_meaning.proofs.functions.leave.Goals as goal
 
-pub returns-in-Next : goal.returns-in-Next
-returns-in-Next c =
+pub returns-in-Normal : goal.returns-in-Normal
+returns-in-Normal c =
     λ w.
     let s = state (variables_view c.args.variables.now) w in
     let ps = map parameter_view c.args.params.now in
-    ends called_view c.leave_with.result s (ends_by c.args.names.now ps (completion_view c.args.flow) s) (returns c.args.names.now ps None s)
-    (ap (λ f. ends_by c.args.names.now ps (completion_view f) s) c.in-Next.is) (c.leave_with.ensures w)
+    ends called_view c.leave_with.result s (ends_by c.args.names.now ps (completion_view c.args.completion) s) (returns c.args.names.now ps None s)
+    (ap (λ f. ends_by c.args.names.now ps (completion_view f) s) c.in-Normal.is) (c.leave_with.ensures w)
 
-pub returns-in-Answered : goal.returns-in-Answered
-returns-in-Answered c =
+pub returns-in-Return : goal.returns-in-Return
+returns-in-Return c =
     λ w.
     let s = state (variables_view c.args.variables.now) w in
     let ps = map parameter_view c.args.params.now in
-    ends called_view c.leave_with-in-Answered.result s (ends_by c.args.names.now ps (completion_view c.args.flow) s) (returns c.args.names.now ps (option_map value_view c.in-Answered.answer) s)
-    (ap (λ f. ends_by c.args.names.now ps (completion_view f) s) c.in-Answered.is) (c.leave_with-in-Answered.ensures w)
+    ends called_view c.leave_with-in-Return.result s (ends_by c.args.names.now ps (completion_view c.args.completion) s) (returns c.args.names.now ps (option_map value_view c.in-Return.answer) s)
+    (ap (λ f. ends_by c.args.names.now ps (completion_view f) s) c.in-Return.is) (c.leave_with-in-Return.ensures w)

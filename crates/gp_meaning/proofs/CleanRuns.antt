@@ -18,10 +18,10 @@ use Rattle.gp_types.specs.declared.builtins.Builtin.{Builtin}
 use Rattle.gp_types.specs.declared.builtins.Builtin.TheVariants as built_in
 use Rattle.gp_locals.specs.Environment.{Names}
 use Rattle.gp_scope.specs.Known.{Known}
+use Rattle.gp_types.specs.Signature.{Parameter}
 use Rattle.gp_locals.specs.Callee.{Callee, Written, Made, BuiltIn, callee_of}
 use Rattle.gp_meaning.specs.Calls.{Called, Functions, called, performed, reported, gives, put_back, put_back_each, tag_of, qubit_at, number_at}
-use Rattle.gp_meaning.specs.Meaning as meaning
-use Rattle.gp_meaning.specs.Meaning.{Frame, Completion, Normal, Break, Continue, Return, Rest, Routine, Routines, value, needed, truth, looked_up, evaluated, evaluated_each, evaluated_behind, then_normal, on_normal, after_body, looping, counting, executed, executed_each, ends_by, returns, ran, ran_named, finals_of, level}
+use Rattle.gp_meaning.specs.Meaning.{Frame, entered, Completion, Normal, Break, Continue, Return, Rest, Routine, Routines, value, needed, truth, looked_up, evaluated, evaluated_each, evaluated_behind, then_normal, on_normal, after_body, looping, counting, executed, executed_each, ends_by, returns, ran_named, finals_of, level}
 use Rattle.gp_meaning.specs.Operators.{Operated, operated, minus_of, or_stop}
 use Rattle.gp_meaning.specs.State as state
 use Rattle.gp_meaning.specs.State.{State, Variables, on_world, with_variables, without_variables, begun_with, assign, assign_place, assign_each, assign_parts, assign_name, value_at}
@@ -260,14 +260,14 @@ module _ (F : Frame) (R : Rest) (ok : CleanRest R) where
 
 -- ---- functions
 
-leaves_clean : (r : Routine) (o : Option Value) → C (returns r o)
-leaves_clean r o = record { clean = λ s. (bind (or_stuck (finals_of r.names r.params s.variables)) _ (find _) (λ finals. same (record { answer = o; finals = finals }))).clean s }
+returns_clean : (names : Names) (params : List Parameter) (o : Option Value) → C (returns names params o)
+returns_clean names params o = record { clean = λ s. (bind (or_stuck (finals_of names params s.variables)) _ (find _) (λ finals. same (record { answer = o; finals = finals }))).clean s }
 
-left_clean : (r : Routine) (flow : Completion) → C (ends_by r flow)
-left_clean r Normal = leaves_clean r None
-left_clean r (Return v) = leaves_clean r v
-left_clean r Break = stops Stuck
-left_clean r Continue = stops Stuck
+ends_clean : (names : Names) (params : List Parameter) (completion : Completion) → C (ends_by names params completion)
+ends_clean names params Normal = returns_clean names params None
+ends_clean names params (Return v) = returns_clean names params v
+ends_clean names params Break = stops Stuck
+ends_clean names params Continue = stops Stuck
 
 dropped : {A : Type 0} (w : World) (o : Out State A) → IsCleanBetween w (after o) → IsCleanBetween w (world_after (without_variables o))
 dropped w (Returned a s) h = h
@@ -275,9 +275,14 @@ dropped w (Stopped e s) h = h
 
 ran_clean : (known : Known) (o : Option Routine) (R : Rest) → CleanRest R → (vs : List Value) → W (ran_named known o R vs)
 ran_clean known None R ok vs = stop_relates IsCleanBetween clean_step Stuck
-ran_clean known (Some r) R ok vs = record {
-  relates = λ w. dropped {A = Called} w ((executed_each (record { known = known; names = r.names }) R r.body >>= ends_by r) (record { variables = state.set_each r.names (state.no_variables r.names) (meaning.names_of_params r.params) vs; world = w })) ((bind (executed_each (record { known = known; names = r.names }) R r.body) (ends_by r) (clean_block (record { known = known; names = r.names }) R ok r.body) (left_clean r)).clean (record { variables = state.set_each r.names (state.no_variables r.names) (meaning.names_of_params r.params) vs; world = w }));
-}
+ran_clean known (Some r) R ok vs =
+    let F : Frame = record { known = known; names = r.names } in
+    record {
+      relates = λ w.
+          let s : State = record { variables = entered r.names r.params vs; world = w } in
+          dropped {A = Called} w ((executed_each F R r.body >>= ends_by r.names r.params) s)
+          ((bind (executed_each F R r.body) (ends_by r.names r.params) (clean_block F R ok r.body) (ends_clean r.names r.params)).clean s);
+    }
 
 level_clean : (known : Known) (routines : Routines) (n : ℕ) → CleanRest (level known routines n)
 level_clean known routines zero = record { calls = λ name vs. stop_relates IsCleanBetween clean_step TurnsUsed; again = λ F c body. stops TurnsUsed; count = λ F name body k limit. stops TurnsUsed }

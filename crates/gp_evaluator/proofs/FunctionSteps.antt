@@ -1,7 +1,6 @@
 -- How functions are found, begin and end.
 use Rattle.std.proofs.Common.{◌≡◌, ℕ, zero, suc, ◌<◌, ◌≤◌, ◌+◌, add-one, Bool, true, false, if◌then◌else◌, bytes_eq, List, [], ◌∷◌, ◌++◌, Option, Some, None, option_map, option_and_then, get_or, drop, length, map, refl, ap, sym, ◌∙◌, arith}
 use Rattle.gp_locals.specs.Environment.{Names}
-use Rattle.gp_locals.specs.Locals.{parameter_name}
 use Rattle.gp_scope.specs.Definitions.{function_named}
 use Rattle.gp_tree.specs.Program.{FunctionDefinition, program_items, function_definition}
 use Rattle.gp_tree.specs.declared.program.Item.{Item}
@@ -54,10 +53,6 @@ named_nowhere (y ∷ ys) zero name h = absurd (omega (arith, h))
 named_nowhere (y ∷ ys) (suc i) name h = named_nowhere ys i name (omega (arith, h))
 
 -- ---- parameters
-
-pub parameter_names : (ps : List SigParam) → parameter_names (map parameter_view ps) ≡ map parameter_name ps
-parameter_names [] = refl
-parameter_names (p ∷ ps) = ap (λ names. p.name ∷ names) (parameter_names ps)
 
 set_step : (names : Names) (s : Variables) (ps : List Parameter) (vs : List Value) (i : ℕ) (p : Parameter) (v : Value) → i < length ps → i < length vs → p ≡ get_or ps i p → v ≡ get_or vs i v
     → set_each names s (parameter_names (drop i ps)) (drop i vs) ≡ set_each names (set names s p.name v) (parameter_names (drop (suc i) ps)) (drop (suc i) vs)

@@ -7,9 +7,9 @@ use Rattle.gp_tree.specs.declared.stmt.Stmt.{Stmt}
 use Rattle.gp_tree.specs.Expression.{Expression, expression, expressions}
 use Rattle.gp_tree.specs.Statement.{Statements, statement, statements}
 use Rattle.gp_meaning.specs.Calls.{Functions}
-use Rattle.gp_evaluator.specs.Evaluation.{rest_in, goes_back, after_loop}
+use Rattle.gp_evaluator.specs.Evaluation.{goes_back, after_loop}
 use Rattle.gp_meaning.specs.Meaning.{Frame, Rest, Completion, Normal, Break, Continue, Return, needed, truth, evaluated, evaluated_each, executed, executed_each, looped, counted, on_normal, after_body}
-use Rattle.gp_meaning.specs.Runs.{Source}
+use Rattle.gp_meaning.specs.Runs.{Source, rest_in}
 use Rattle.gp_meaning.specs.State.{State, Variables, on_world, with_variables, set, assign_name}
 use Rattle.gp_meaning.specs.Value.{Value, number}
 use Rattle.gp_evaluator.specs.View.{state}

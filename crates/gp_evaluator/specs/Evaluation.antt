@@ -15,14 +15,14 @@ use Rattle.gp_evaluator.specs.declared.frame.Frame as declared_frame
 use Rattle.gp_evaluator.specs.declared.variables.Variables as declared_variables
 use Rattle.gp_evaluator.specs.declared.world.World as declared_world
 use Rattle.gp_meaning.specs.Meaning.{Frame, Completion, Normal, Break, Continue, Return, Rest, needed, truth, evaluated, evaluated_each, executed, executed_each, looped, counted, routines_of}
-use Rattle.gp_meaning.specs.Runs.{Source, function_in, while_in, for_in}
+use Rattle.gp_meaning.specs.Runs.{Source, rest_in}
 use Rattle.gp_meaning.specs.State.{State, Variables, variable}
 use Rattle.gp_meaning.specs.Value.{Value}
 use Rattle.gp_evaluator.specs.View.{value_view, variables_view, world_view, state}
 
 -- ---- how statements end
 
-abbrev pub completion_view : declared_completion.Flow → Completion
+abbrev pub completion_view : declared_completion.Completion → Completion
 completion_view completions.Normal = Normal
 completion_view completions.Break = Break
 completion_view completions.Continue = Continue

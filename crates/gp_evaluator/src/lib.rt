@@ -17,6 +17,3 @@ mod variables;
 mod world;
 
 pub use entry::{EvalFault, SourceEnd, evaluate};
-
-#[cfg(test)]
-mod tests;

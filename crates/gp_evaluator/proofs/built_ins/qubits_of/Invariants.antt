@@ -1,7 +1,7 @@
 use Rattle.std.proofs.Common.{◌≡◌, Some, map, option_map, take}
 use Rattle.gp_meaning.specs.Value.{qubit}
 use Rattle.gp_evaluator.specs.View.{value_view}
-use Rattle.gp_meaning.proofs.built_ins.qubits_of.Given as goal
+use Rattle.gp_evaluator.proofs.built_ins.qubits_of.Given as goal
 
 -- the qubits so far
 abbrev pub invariant-loop-number : goal.invariant-loop-number

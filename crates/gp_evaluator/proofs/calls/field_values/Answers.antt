@@ -8,8 +8,8 @@ use Rattle.gp_meaning.specs.Calls as spec
 use Rattle.gp_evaluator.specs.View.{value_view, field_view}
 use Rattle.gp_evaluator.proofs.CallRows.{prefixed, prefixed_end, fields_made, none_made, no_fields_left}
 use Rattle.gp_evaluator.proofs.Views.{field_view_is}
-use Rattle.gp_meaning.proofs.calls.field_values.Goals as goal
-use Rattle.gp_meaning.proofs.calls.field_values.Goals.{then-i-values+in_ok-copy+in_ok-copy-2+in_ok-push, else-i-values}
+use Rattle.gp_evaluator.proofs.calls.field_values.Goals as goal
+use Rattle.gp_evaluator.proofs.calls.field_values.Goals.{then-i-values+in_ok-copy+in_ok-copy-2+in_ok-push, else-i-values}
 
 pub loop-i-preserved : goal.loop-i-preserved
 loop-i-preserved c =

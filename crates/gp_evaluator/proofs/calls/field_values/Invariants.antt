@@ -4,7 +4,7 @@ use Rattle.gp_types.specs.View as types_view
 use Rattle.gp_meaning.specs.Calls as spec
 use Rattle.gp_evaluator.specs.View.{value_view, field_view}
 use Rattle.gp_evaluator.proofs.CallRows.{prefixed}
-use Rattle.gp_meaning.proofs.calls.field_values.Given as goal
+use Rattle.gp_evaluator.proofs.calls.field_values.Given as goal
 
 -- the fields so far, before those that are left
 abbrev pub invariant-loop-i : goal.invariant-loop-i

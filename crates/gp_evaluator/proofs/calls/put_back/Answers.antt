@@ -5,7 +5,7 @@ use Rattle.gp_evaluator.specs.View.{value_view, variables_view, state}
 use Rattle.gp_tree.specs.Expression.{expression}
 use Rattle.gp_evaluator.proofs.Steps.{ends}
 use Rattle.gp_evaluator.proofs.Texts.{as_place}
-use Rattle.gp_meaning.proofs.calls.put_back.Goals as goal
+use Rattle.gp_evaluator.proofs.calls.put_back.Goals as goal
 
 pub returns-in_ok-value-in-Place : goal.returns-in_ok-value-in-Place
 returns-in_ok-value-in-Place c =

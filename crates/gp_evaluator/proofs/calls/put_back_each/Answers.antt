@@ -5,8 +5,8 @@ use Rattle.gp_tree.specs.Expression.{expression}
 use Rattle.gp_evaluator.specs.View.{value_view, variables_view, state}
 use Rattle.gp_evaluator.proofs.Backs.{backs, back_some, back_none, backs_end, next_place, out_on}
 use Rattle.gp_evaluator.proofs.Steps.{exits}
-use Rattle.gp_meaning.proofs.calls.put_back_each.Goals as goal
-use Rattle.gp_meaning.proofs.calls.put_back_each.Goals.{then-i-arguments+in-Some+in_ok-put_back, then-i-arguments+in_default, else-i-arguments}
+use Rattle.gp_evaluator.proofs.calls.put_back_each.Goals as goal
+use Rattle.gp_evaluator.proofs.calls.put_back_each.Goals.{then-i-arguments+in-Some+in_ok-put_back, then-i-arguments+in_default, else-i-arguments}
 
 pub returns-in_err-put_back : goal.returns-in_err-put_back
 returns-in_err-put_back c =

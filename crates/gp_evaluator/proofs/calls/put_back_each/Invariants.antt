@@ -3,7 +3,7 @@ use Rattle.gp_base.specs.World.{World}
 use Rattle.gp_tree.specs.Expression.{expression}
 use Rattle.gp_evaluator.specs.View.{value_view, variables_view, state}
 use Rattle.gp_evaluator.proofs.Backs.{backs}
-use Rattle.gp_meaning.proofs.calls.put_back_each.Given as goal
+use Rattle.gp_evaluator.proofs.calls.put_back_each.Given as goal
 
 -- the final values that are left go to the arguments that are left
 abbrev pub invariant-loop-i : goal.invariant-loop-i

@@ -3,7 +3,7 @@ use Rattle.std.proofs.lemmas.Iterator.Adapters.{YieldsList-from_vec}
 use Rattle.std.proofs.lemmas.Iterator.Consumers.{YieldsList-so_far}
 use Rattle.std.proofs.lemmas.List.{map-id}
 use Rattle.gp_evaluator.proofs.EntryRuns.{append_exits}
-use Rattle.gp_meaning.proofs.entry.append.Goals as goal
+use Rattle.gp_evaluator.proofs.entry.append.Goals as goal
 
 pub returns-in_err-push : goal.returns-in_err-push
 returns-in_err-push c =

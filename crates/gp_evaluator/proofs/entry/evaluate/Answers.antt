@@ -8,7 +8,7 @@ use Rattle.gp_evaluator.specs.Answers.{end_of, fault_of}
 use Rattle.gp_evaluator.specs.Evaluation.{rest_of}
 use Rattle.gp_evaluator.specs.View.{world_view}
 use Rattle.gp_evaluator.proofs.EntryRuns.{entry_is}
-use Rattle.gp_meaning.proofs.entry.evaluate.Goals as goal
+use Rattle.gp_evaluator.proofs.entry.evaluate.Goals as goal
 
 pub returns-in-Ok-append : goal.returns-in-Ok-append
 returns-in-Ok-append c =

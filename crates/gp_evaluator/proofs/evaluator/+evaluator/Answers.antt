@@ -5,7 +5,7 @@ use Rattle.gp_tree.specs.Expression.{expression, expressions}
 use Rattle.gp_tree.specs.Program.{program_items, function_definition}
 use Rattle.gp_tree.specs.Statement.{statement, statements}
 use Rattle.gp_types.specs.Signature.{parameter_view, signature_view, parameter_names}
-use Rattle.gp_locals.specs.Locals.{locals, parameter_name}
+use Rattle.gp_locals.specs.Locals.{locals}
 use Rattle.gp_scope.specs.ScopeView.{known_in}
 use Rattle.gp_evaluator.specs.Evaluation.{completion_view, state_of, frame_view, rest_of, rest_for, source_in, expression_run, statement_run, block_run, for_run}
 use Rattle.gp_meaning.specs.Meaning.{executed_each, ends_by}
@@ -13,13 +13,12 @@ use Rattle.gp_meaning.specs.State.{set, no_variables, set_each, without_variable
 use Rattle.gp_meaning.specs.Value.{number_of}
 use Rattle.gp_evaluator.specs.View.{value_view, variables_view, world_view, called_view, state}
 use Rattle.gp_evaluator.proofs.Falls.{measure, largest, row_size, block_size, falls, falls_turn, turn_less, item_falls, statement_falls, body_within}
-use Rattle.gp_evaluator.proofs.FunctionSteps.{parameter_names}
 use Rattle.gp_evaluator.proofs.Goes.{call_goes, for_goes}
 use Rattle.gp_evaluator.proofs.Loops.{while_round, for_body_err, for_left, for_no_turn, for_round}
 use Rattle.gp_evaluator.proofs.Routines.{no_function, no_signature, function_goes, of_world}
 use Rattle.gp_evaluator.proofs.Sizes.{minus_part, negation_part, binary_left, binary_right, both_left, both_right, either_left, either_right, choice_test, choice_value, choice_other, tuple_parts, call_parts, assign_part, annotated_part, evaluate_part, return_part, if_test, if_body, if_other, while_part, for_limit, for_part}
 use Rattle.gp_evaluator.proofs.Steps.{exits, ends}
-use Rattle.gp_meaning.proofs.evaluator.+evaluator.Goals as goal
+use Rattle.gp_evaluator.proofs.evaluator.+evaluator.Goals as goal
 
 pub evaluate_expr-evaluate_value-requires : goal.evaluate_expr-evaluate_value-requires
 evaluate_expr-evaluate_value-requires t c =
@@ -253,9 +252,8 @@ run_function-returns-in_err-completion-clause-run t c =
     let known = known_in scope in
     let params : c.as_slice-params.result.now ≡ c.in-Some-signature.signature.now.params = c.as_slice-params.ensures in
     let named : names ≡ locals (parameter_names sig.params) fd.body =
-    c.in_ok-names.ensures ∙ ap (λ ps. locals (map parameter_name ps) (statements c.deref.result.now)) params
-    ∙ ap (λ b. locals (map parameter_name c.in-Some-signature.signature.now.params) (statements b)) c.deref.ensures.value
-    ∙ ap (λ ns. locals ns fd.body) (sym (parameter_names c.in-Some-signature.signature.now.params)) in
+    c.in_ok-names.ensures ∙ ap (λ ps. locals (parameter_names (map parameter_view ps)) (statements c.deref.result.now)) params
+    ∙ ap (λ b. locals (parameter_names sig.params) (statements b)) c.deref.ensures.value in
     let set_up : begun ≡ set_each names (no_variables names) (parameter_names sig.params) vs =
     c.in_ok-variables.ensures ∙ ap (λ ps. set_each names (no_variables names) (parameter_names (map parameter_view ps)) vs) params in
     let goes = function_goes items scope name vs w fd sig names begun (sym c.in-Some.ensures) (sym c.in-Some-signature.ensures) named set_up in
@@ -278,9 +276,8 @@ run_function-returns-clause-run t c =
     let known = known_in scope in
     let params : c.as_slice-params.result.now ≡ c.in-Some-signature.signature.now.params = c.as_slice-params.ensures in
     let named : names ≡ locals (parameter_names sig.params) fd.body =
-    c.in_ok-names.ensures ∙ ap (λ ps. locals (map parameter_name ps) (statements c.deref.result.now)) params
-    ∙ ap (λ b. locals (map parameter_name c.in-Some-signature.signature.now.params) (statements b)) c.deref.ensures.value
-    ∙ ap (λ ns. locals ns fd.body) (sym (parameter_names c.in-Some-signature.signature.now.params)) in
+    c.in_ok-names.ensures ∙ ap (λ ps. locals (parameter_names (map parameter_view ps)) (statements c.deref.result.now)) params
+    ∙ ap (λ b. locals (parameter_names sig.params) (statements b)) c.deref.ensures.value in
     let set_up : begun ≡ set_each names (no_variables names) (parameter_names sig.params) vs =
     c.in_ok-variables.ensures ∙ ap (λ ps. set_each names (no_variables names) (parameter_names (map parameter_view ps)) vs) params in
     let goes = function_goes items scope name vs w fd sig names begun (sym c.in-Some.ensures) (sym c.in-Some-signature.ensures) named set_up in

@@ -6,7 +6,7 @@ use Rattle.gp_tree.specs.Statement.{statement, statements}
 use Rattle.gp_evaluator.specs.Evaluation.{state_of, values_run, block_run, while_run, for_run}
 use Rattle.gp_evaluator.specs.View.{value_view}
 use Rattle.gp_evaluator.proofs.Falls.{measure, largest, expression_size, row_size, statement_size, block_size}
-use Rattle.gp_meaning.proofs.evaluator.+evaluator.Given as goal
+use Rattle.gp_evaluator.proofs.evaluator.+evaluator.Given as goal
 
 -- each call goes down into a part of the text, or takes a turn
 

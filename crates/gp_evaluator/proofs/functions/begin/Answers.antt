@@ -4,8 +4,8 @@ use Rattle.gp_types.specs.Signature.{parameter_view, parameter_names}
 use Rattle.gp_meaning.specs.State.{set, set_each}
 use Rattle.gp_evaluator.specs.View.{value_view, variables_view}
 use Rattle.gp_evaluator.proofs.FunctionSteps.{set_more, set_out}
-use Rattle.gp_meaning.proofs.functions.begin.Goals as goal
-use Rattle.gp_meaning.proofs.functions.begin.Goals.{then-i-values+in_ok-value, else-i-values}
+use Rattle.gp_evaluator.proofs.functions.begin.Goals as goal
+use Rattle.gp_evaluator.proofs.functions.begin.Goals.{then-i-values+in_ok-value, else-i-values}
 
 pub loop-i-preserved : goal.loop-i-preserved
 loop-i-preserved c =

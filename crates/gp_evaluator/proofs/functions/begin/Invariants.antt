@@ -2,7 +2,7 @@ use Rattle.std.proofs.Common.{◌≡◌, map, drop}
 use Rattle.gp_types.specs.Signature.{parameter_view, parameter_names}
 use Rattle.gp_meaning.specs.State.{no_variables, set_each}
 use Rattle.gp_evaluator.specs.View.{value_view, variables_view}
-use Rattle.gp_meaning.proofs.functions.begin.Given as goal
+use Rattle.gp_evaluator.proofs.functions.begin.Given as goal
 
 -- the parameters that are left get the values that are left
 abbrev pub invariant-loop-i : goal.invariant-loop-i

@@ -4,7 +4,7 @@ use Rattle.gp_meaning.specs.Meaning.{finals_of}
 use Rattle.gp_evaluator.specs.View.{value_view, variables_view}
 use Rattle.gp_evaluator.proofs.FunctionSteps.{finals_none}
 use Rattle.gp_evaluator.proofs.Steps.{found_exits}
-use Rattle.gp_meaning.proofs.functions.final_values.Goals as goal
+use Rattle.gp_evaluator.proofs.functions.final_values.Goals as goal
 
 pub returns-in_err-value : goal.returns-in_err-value
 returns-in_err-value c =

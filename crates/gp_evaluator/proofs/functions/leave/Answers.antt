@@ -4,7 +4,7 @@ use Rattle.gp_evaluator.specs.Evaluation.{completion_view}
 use Rattle.gp_meaning.specs.Meaning.{ends_by, returns}
 use Rattle.gp_evaluator.specs.View.{value_view, variables_view, called_view, state}
 use Rattle.gp_evaluator.proofs.Steps.{ends}
-use Rattle.gp_meaning.proofs.functions.leave.Goals as goal
+use Rattle.gp_evaluator.proofs.functions.leave.Goals as goal
 
 pub returns-in-Normal : goal.returns-in-Normal
 returns-in-Normal c =

@@ -1,6 +1,6 @@
 use Rattle.std.proofs.Common.{◌≡◌, map, take}
 use Rattle.gp_evaluator.specs.View.{value_view, field_view}
-use Rattle.gp_meaning.proofs.value.+copying.Given as goal
+use Rattle.gp_evaluator.proofs.value.+copying.Given as goal
 
 abbrev pub invariant-copy_values-loop-value : goal.invariant-copy_values-loop-value
 invariant-copy_values-loop-value l = map value_view l.made.items ≡ map value_view (take l.value-index l.values)

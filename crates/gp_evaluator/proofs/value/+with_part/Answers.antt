@@ -4,7 +4,7 @@ use Rattle.gp_meaning.specs.Value as spec
 use Rattle.gp_evaluator.specs.View.{value_view, field_view}
 use Rattle.gp_evaluator.proofs.Paths.{place_within, part_none, part_found, at_field}
 use Rattle.gp_evaluator.proofs.Views.{struct_view, field_view_is}
-use Rattle.gp_meaning.proofs.value.+with_part.Goals as goal
+use Rattle.gp_evaluator.proofs.value.+with_part.Goals as goal
 
 pub returns-in_default-place_named : goal.returns-in_default-place_named
 returns-in_default-place_named t c =

@@ -1,7 +1,7 @@
 use Rattle.std.proofs.Common.{◌≡◌, map, drop}
 use Rattle.gp_meaning.specs.Value as spec
 use Rattle.gp_evaluator.specs.View.{field_view}
-use Rattle.gp_meaning.proofs.value.field_named.Given as goal
+use Rattle.gp_evaluator.proofs.value.field_named.Given as goal
 
 -- the fields that are left decide
 abbrev pub invariant-loop-field : goal.invariant-loop-field

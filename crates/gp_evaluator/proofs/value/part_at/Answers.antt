@@ -2,7 +2,7 @@ use Rattle.std.proofs.Common.{◌∙◌, ap, Some}
 use Rattle.gp_meaning.specs.Value as spec
 use Rattle.gp_evaluator.specs.View.{value_view}
 use Rattle.gp_evaluator.proofs.Paths.{path_stops}
-use Rattle.gp_meaning.proofs.value.part_at.Goals as goal
+use Rattle.gp_evaluator.proofs.value.part_at.Goals as goal
 
 pub returns-in_err-part : goal.returns-in_err-part
 returns-in_err-part c =

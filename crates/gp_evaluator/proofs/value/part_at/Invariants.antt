@@ -1,7 +1,7 @@
 use Rattle.std.proofs.Common.{◌≡◌, Some, drop}
 use Rattle.gp_meaning.specs.Value as spec
 use Rattle.gp_evaluator.specs.View.{value_view}
-use Rattle.gp_meaning.proofs.value.part_at.Given as goal
+use Rattle.gp_evaluator.proofs.value.part_at.Given as goal
 
 -- along the fields that are left, the same as at first
 abbrev pub invariant-loop-field : goal.invariant-loop-field

@@ -5,7 +5,7 @@ use Rattle.gp_meaning.specs.Value as spec
 use Rattle.gp_evaluator.specs.View.{value_view, field_view}
 use Rattle.gp_evaluator.proofs.Paths.{written}
 use Rattle.gp_evaluator.proofs.Views.{field_view_is}
-use Rattle.gp_meaning.proofs.value.with_value_at.Goals as goal
+use Rattle.gp_evaluator.proofs.value.with_value_at.Goals as goal
 
 pub returns : goal.returns
 returns c =

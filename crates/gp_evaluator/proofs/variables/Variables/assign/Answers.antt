@@ -6,7 +6,7 @@ use Rattle.gp_evaluator.specs.View.{value_view, values_view, variables_view, sta
 use Rattle.gp_evaluator.proofs.Assignments.{listed_of}
 use Rattle.gp_evaluator.proofs.Steps.{ends}
 use Rattle.gp_evaluator.proofs.Views.{tuple_view}
-use Rattle.gp_meaning.proofs.variables.Variables.assign.Goals as goal
+use Rattle.gp_evaluator.proofs.variables.Variables.assign.Goals as goal
 
 pub returns-in-Tuple : goal.returns-in-Tuple
 returns-in-Tuple c =

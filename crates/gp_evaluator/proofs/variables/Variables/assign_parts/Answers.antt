@@ -4,7 +4,7 @@ use Rattle.gp_meaning.specs.State as spec
 use Rattle.gp_evaluator.specs.View.{value_view, variables_view, state}
 use Rattle.gp_evaluator.proofs.Assignments.{each_on, each_stops, each_ends, parts_are}
 use Rattle.gp_evaluator.proofs.Steps.{exits}
-use Rattle.gp_meaning.proofs.variables.Variables.assign_parts.Goals as goal
+use Rattle.gp_evaluator.proofs.variables.Variables.assign_parts.Goals as goal
 
 pub returns-in_err-assign_place : goal.returns-in_err-assign_place
 returns-in_err-assign_place c =

@@ -2,7 +2,7 @@ use Rattle.std.proofs.Common.{◌∙◌, ap}
 use Rattle.gp_meaning.specs.State as spec
 use Rattle.gp_evaluator.specs.View.{value_view, variables_view}
 use Rattle.gp_evaluator.proofs.Entries.{entry_set}
-use Rattle.gp_meaning.proofs.variables.Variables.set.Goals as goal
+use Rattle.gp_evaluator.proofs.variables.Variables.set.Goals as goal
 
 pub returns-then-position-len : goal.returns-then-position-len
 returns-then-position-len c =

@@ -3,7 +3,7 @@ use Rattle.gp_meaning.specs.State as spec
 use Rattle.gp_meaning.specs.Value.{at_path}
 use Rattle.gp_evaluator.specs.View.{variables_view}
 use Rattle.gp_evaluator.proofs.Paths.{path_none}
-use Rattle.gp_meaning.proofs.variables.Variables.value_at.Goals as goal
+use Rattle.gp_evaluator.proofs.variables.Variables.value_at.Goals as goal
 
 pub returns-in_err-get : goal.returns-in_err-get
 returns-in_err-get c =

@@ -239,7 +239,8 @@ guppy_call graph_texts_have_one_migration, guppy_call graph_texts_have_one_run,
 gp_base write_all,
 gp_base worlds_stay_clean, gp_lower thin, gp_lower lower_thin, gp_lex lines, gp_form line_form, gp_parse program,
 gp_types is_linear, gp_types size, gp_types leaf_count, gp_types builtin, gp_scope collect, gp_locals locals_of,
-gp_locals find_callee, gp_locals is_tag, gp_typing check, gp_meaning every_level_is_enough, gp_front check_text,
+gp_locals find_callee, gp_locals is_tag, gp_typing check, gp_meaning every_level_is_enough, gp_meaning runs_are_clean, gp_evaluator evaluate,
+gp_flow build, gp_flow flows_run_as_texts, gp_own programs_are_sound, gp_front check_text,
 gp_front one_answer, hg_ops signature, hg_ops op_of_name, hg_ops is_effect, hg_graph feeder, walks first_back,
 walks longest_chains, hg_valid validate, hg_valid is_ordered, hg_json write, hg_json read, hg_run run, guppy_words request_of
 """

@@ -12,9 +12,9 @@ use Rattle.gp_types.specs.declared.builtins.Builtin.{Builtin}
 use Rattle.gp_types.specs.declared.builtins.Builtin.TheVariants as built_in
 use Rattle.gp_meaning.specs.Value.{Value, number, boolean, qubit, boolean_of}
 use Rattle.gp_meaning.specs.State.{State, on_world, placed, variable, value_at, assign_name, assign_place}
-use Rattle.gp_meaning.specs.Operators.{Answer, operated, minus_of, answered}
+use Rattle.gp_meaning.specs.Operators.{Operated, operated, minus_of, or_stop}
 use Rattle.gp_meaning.specs.Calls.{Functions, gives, performed, reported, qubit_at, number_at, called, tag_of, put_back, put_back_each}
-use Rattle.gp_meaning.specs.Meaning.{Frame, value, needed, truth, read, evaluated, evaluated_each, evaluated_behind}
+use Rattle.gp_meaning.specs.Meaning.{Frame, value, needed, truth, looked_up, evaluated, evaluated_each, evaluated_behind}
 use Rattle.gp_meaning.proofs.Levels.{Agree, agree_bind, agree_kept, agree_ret, agree_stop, agree_found, agree_if, turns, turns_left, Falls, bind_falls, found_falls, free_falls, measure_falls, measure_free_falls, reset_falls, gate_falls, gate_on_two_falls, gate_on_three_falls, rotate_falls, turn_then, agree_on_world}
 
 -- functions that are the same where fewer turns are left, and never gain one
@@ -80,11 +80,11 @@ module _ (t : ℕ) (F : Frame) (f f' : Functions) (A : AgreeFunctions t f f') wh
   pub truth_agree : (m m' : Run State (Option Value)) → Agree turns_left t m m' → Agree turns_left t (truth m) (truth m')
   truth_agree m m' G = agree_bind turns_left t (needed m) (needed m') _ _ (needed_agree m m' G) (λ v. agree_found turns_left t (boolean_of v))
 
-  answered_agree : (a : Answer) → Agree turns_left t (answered a) (answered a)
+  answered_agree : (a : Operated) → Agree turns_left t (or_stop a) (or_stop a)
   answered_agree (Ok v) = agree_ret turns_left t v
   answered_agree (Err e) = agree_stop turns_left t e
 
-  read_agree : (o : Option Value) → Agree turns_left t (read o) (read o)
+  read_agree : (o : Option Value) → Agree turns_left t (looked_up o) (looked_up o)
   read_agree o = agree_bind turns_left t (or_stuck o) (or_stuck o) _ _ (agree_found turns_left t o) (λ v. value_agree v)
 
   mutual
@@ -101,7 +101,7 @@ module _ (t : ℕ) (F : Frame) (f f' : Functions) (A : AgreeFunctions t f f') wh
     evaluated_agree (expr.binary o a b) =
         agree_bind turns_left t (needed (evaluated F f a)) (needed (evaluated F f' a)) _ _ (needed_agree _ _ (evaluated_agree a))
         (λ x. agree_bind turns_left t (needed (evaluated F f b)) (needed (evaluated F f' b)) _ _ (needed_agree _ _ (evaluated_agree b))
-        (λ y. agree_bind turns_left t (answered (operated o x y)) (answered (operated o x y)) _ _ (answered_agree (operated o x y)) value_agree))
+        (λ y. agree_bind turns_left t (or_stop (operated o x y)) (or_stop (operated o x y)) _ _ (answered_agree (operated o x y)) value_agree))
     evaluated_agree (expr.both a b) =
         agree_bind turns_left t (truth (evaluated F f a)) (truth (evaluated F f' a)) _ _ (truth_agree _ _ (evaluated_agree a))
         (λ x. agree_if turns_left t x _ _ _ _

@@ -8,19 +8,19 @@ use Rattle.gp_tree.specs.declared.expr.BinOp.TheVariants as op
 use Rattle.gp_meaning.specs.Value.{Value, number, boolean, number_of}
 
 -- a value, or why there is none
-abbrev pub Answer : Type 0
-Answer = Result Value Stop
+abbrev pub Operated : Type 0
+Operated = Result Value Stop
 
 -- a run that gives the value, or stops
-abbrev pub answered : {S : Type 0} → Answer → Run S Value
-answered (Ok v) = ret v
-answered (Err e) = stop e
+abbrev pub or_stop : {S : Type 0} → Operated → Run S Value
+or_stop (Ok v) = ret v
+or_stop (Err e) = stop e
 
 -- the answer of a division by the second number
-abbrev pub divided : ℤ → ℤ → Answer
+abbrev pub divided : ℤ → ℤ → Operated
 divided n by = if is_same by (pos 0) then Err DivisionByZero else Ok (number n)
 
-abbrev pub of_numbers : BinOp → ℤ → ℤ → Answer
+abbrev pub of_numbers : BinOp → ℤ → ℤ → Operated
 of_numbers op.Add a b = Ok (number (sum a b))
 of_numbers op.Sub a b = Ok (number (difference a b))
 of_numbers op.Mul a b = Ok (number (product a b))
@@ -34,7 +34,7 @@ of_numbers op.Gt a b = Ok (boolean (int_lt b a))
 of_numbers op.Ge a b = Ok (boolean (int_le b a))
 
 -- truth values are compared, and nothing else
-abbrev pub of_booleans : BinOp → Bool → Bool → Answer
+abbrev pub of_booleans : BinOp → Bool → Bool → Operated
 of_booleans op.Eq a b = Ok (boolean (same_truth a b))
 of_booleans op.Ne a b = Ok (boolean (not (same_truth a b)))
 of_booleans _ a b = Err Stuck
@@ -44,7 +44,7 @@ abbrev pub minus_of : Value → Option Value
 minus_of v = option_map (λ n. number (negated n)) (number_of v)
 
 -- two numbers or two truth values; others are of a wrong kind
-abbrev pub operated : BinOp → Value → Value → Answer
+abbrev pub operated : BinOp → Value → Value → Operated
 operated o (number a) (number b) = of_numbers o a b
 operated o (boolean a) (boolean b) = of_booleans o a b
 operated o _ _ = Err Stuck

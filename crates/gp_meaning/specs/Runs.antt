@@ -10,7 +10,7 @@ use Rattle.gp_tree.specs.Statement.{Statement, Statements}
 use Rattle.gp_meaning.specs.Value.{Value}
 use Rattle.gp_meaning.specs.State.{State}
 use Rattle.gp_meaning.specs.Calls.{Called, called}
-use Rattle.gp_meaning.specs.Meaning.{Frame, Flow, Rest, Routines, needed, truth, evaluated, evaluated_each, executed, executed_each, looped, counted, ran_named, routines_of, level}
+use Rattle.gp_meaning.specs.Meaning.{Frame, Completion, Rest, Routines, needed, truth, evaluated, evaluated_each, executed, executed_each, looped, counted, ran_named, routines_of, level}
 
 -- what a program's names mean, and its functions
 pub record Source : Type 0 where
@@ -33,17 +33,17 @@ truth_in P F e = at_turns P (λ r. truth (evaluated F r.call e))
 abbrev pub values_in : Source → Frame → Expressions → Run State (List Value)
 values_in P F es = at_turns P (λ r. evaluated_each F r.call es)
 
-abbrev pub executed_in : Source → Frame → Statement → Run State Flow
+abbrev pub executed_in : Source → Frame → Statement → Run State Completion
 executed_in P F s = at_turns P (λ r. executed F r s)
 
-abbrev pub block_in : Source → Frame → Statements → Run State Flow
+abbrev pub block_in : Source → Frame → Statements → Run State Completion
 block_in P F ss = at_turns P (λ r. executed_each F r ss)
 
 -- a `while` and a `for` at their heads
-abbrev pub while_in : Source → Frame → Expression → Statements → Run State Flow
+abbrev pub while_in : Source → Frame → Expression → Statements → Run State Completion
 while_in P F c body = at_turns P (λ r. looped F r c body)
 
-abbrev pub for_in : Source → Frame → List ℕ → Statements → (count limit : ℤ) → Run State Flow
+abbrev pub for_in : Source → Frame → List ℕ → Statements → (count limit : ℤ) → Run State Completion
 for_in P F name body count limit = at_turns P (λ r. counted F r name body count limit)
 
 -- a written function, once its turn is taken
@@ -61,3 +61,8 @@ source program = record { known = known_of program; routines = routines_of (know
 -- the run of a function of a program, with these values of its parameters
 abbrev pub run_of : List ProgramItem → List ℕ → List Value → Run World Called
 run_of program name vs = function_in (source program) name vs
+
+-- What runs of a program go on with once a turn is taken: all that the program says, each at the level of the turns that
+-- are then left.
+unfoldable pub rest_in : Source → Rest
+rest_in P = record { call = function_in P; again = while_in P; count = for_in P }

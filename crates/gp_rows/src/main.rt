@@ -14,6 +14,7 @@
 //! | `item_lines` | the same, each by its lines alone |
 //! | `scope` | what each item's names stand for, and the types that annotated assignments write |
 //! | `types` | the types of structs, the signatures of functions, and the usable names before each outer statement |
+//! | `run ENTRY TURNS OUTCOMES` | the events of the run of this function with these turns and outcomes (a digit for each, none at all behind the turns for none), and how it ends |
 //!
 //! In place of what a phase tells stands the fault of that phase or of one before it: `line N: CODE`, with the phase before the
 //! code in `faults`.
@@ -22,6 +23,7 @@
 mod fault_text;
 mod kind;
 mod program_text;
+mod run_text;
 mod scope_text;
 mod token_text;
 mod told;

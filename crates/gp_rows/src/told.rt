@@ -3,8 +3,9 @@
 ghost use Rattle.std.specs.Prelude.{◌≤◌, length};
 
 use crate::fault_text::{lex_code, parse_code, scope_code, told_code, told_fault};
-use crate::kind::Kind;
+use crate::kind::{Kind, Start};
 use crate::program_text::{told_form_names, told_forms, told_items, told_lines_of_items};
+use crate::run_text::told_run;
 use crate::scope_text::told_scope;
 use crate::token_text::told_lines;
 use crate::type_text::told_types;
@@ -17,13 +18,14 @@ use gp_tree::Program;
 use std::alloc::{AllocError, Global};
 
 /// What is told of a text, in one line or more.
-pub fn answer(alloc: Global, kind: Kind, text: &[u8]) -> Result<String, AllocError> {
+pub fn answer(alloc: Global, kind: Kind<'_>, text: &[u8]) -> Result<String, AllocError> {
     if text.len() > SOURCE_LIMIT {
         return format!(in alloc; "longer than a text may be");
     }
     let told = match kind {
         Kind::Faults => told_first_fault(alloc, text)?,
         Kind::Types => told_typed(alloc, text)?,
+        Kind::Run(start) => told_of_run(alloc, start, text)?,
         Kind::Tokens
         | Kind::Forms
         | Kind::FormNames
@@ -56,8 +58,18 @@ fn told_typed(alloc: Global, text: &[u8]) -> Result<String, AllocError>
     }
 }
 
+// The run of a text without a fault.
+fn told_of_run(alloc: Global, start: Start<'_>, text: &[u8]) -> Result<String, AllocError>
+    requires { length text.now ≤ SOURCE_LIMIT }
+{
+    match check_text(alloc, text) {
+        Ok(checked) => told_run(alloc, &checked.program, &checked.scope, start),
+        Err(fault) => told_fault(alloc, fault),
+    }
+}
+
 // What the kind tells of the text's lines.
-fn told_of_lines(alloc: Global, kind: Kind, text: &[u8]) -> Result<String, AllocError>
+fn told_of_lines(alloc: Global, kind: Kind<'_>, text: &[u8]) -> Result<String, AllocError>
     requires { length text.now ≤ SOURCE_LIMIT }
 {
     let found = match lines(alloc, text) {
@@ -73,7 +85,7 @@ fn told_of_lines(alloc: Global, kind: Kind, text: &[u8]) -> Result<String, Alloc
 }
 
 // What the kind tells of the program that the lines nest to.
-fn told_of_program(alloc: Global, kind: Kind, found: &Lines) -> Result<String, AllocError> {
+fn told_of_program(alloc: Global, kind: Kind<'_>, found: &Lines) -> Result<String, AllocError> {
     let items = match program(alloc, found) {
         Ok(items) => items,
         Err(fault) => return told_code(alloc, parse_code(fault)),

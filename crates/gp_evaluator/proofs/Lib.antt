@@ -1,0 +1,16 @@
+pub mod Flags
+pub mod Paths
+pub mod Views
+pub mod Entries
+pub mod Assignments
+pub mod Steps
+pub mod CallRows
+pub mod Texts
+pub mod Backs
+pub mod Falls
+pub mod Goes
+pub mod Loops
+pub mod FunctionSteps
+pub mod Sizes
+pub mod Routines
+pub mod EntryRuns

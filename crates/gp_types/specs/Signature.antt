@@ -1,7 +1,7 @@
 -- How functions take and answer values.
 use Rattle.std.specs.Prelude.{ℕ, Bool, true, false, List, Option, map, option_map, if◌then◌else◌}
-use Rattle.gp_types.specs.declared.signature.Mode.{Mode}
-use Rattle.gp_types.specs.declared.signature.Mode.TheVariants.{Borrowed, Owned, Copied}
+use Rattle.gp_types.specs.declared.mode.Mode.{Mode}
+use Rattle.gp_types.specs.declared.mode.Mode.TheVariants.{Borrowed, Owned, Copied}
 use Rattle.gp_types.specs.declared.signature.SigParam as declared_parameter
 use Rattle.gp_types.specs.declared.signature.Signature as declared
 use Rattle.gp_types.specs.Types.{Ty}

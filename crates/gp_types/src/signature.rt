@@ -4,19 +4,9 @@ ghost use Rattle.std.specs.Prelude.{◌≡◌};
 ghost use Rattle.gp_types.specs.Signature.{mode_of};
 ghost use Rattle.gp_types.specs.View.{ty_view};
 
+use crate::mode::Mode;
 use crate::ty::{Ty, is_linear};
 use gp_base::{Name, Sequence};
-
-/// How a function takes an argument.
-#[derive(Clone, Copy, Debug, PartialEq, Eq)]
-pub enum Mode {
-    /// A linear value that comes back to the caller when the function returns.
-    Borrowed,
-    /// A linear value that the function keeps.
-    Owned,
-    /// A value without qubits, which is copied.
-    Copied,
-}
 
 /// A parameter of a function.
 #[derive(Debug, Drop)]

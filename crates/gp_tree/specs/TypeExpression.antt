@@ -1,6 +1,8 @@
 -- Written types as plain data, and the data that a written type in memory is.
 use Rattle.std.specs.Prelude.{ℕ, Bool, List, [], ◌∷◌, map, Option, Some, None, option_map}
 use Rattle.std.specs.Rc.{rc_slice_items, rc_value}
+use Rattle.std.specs.declared.alloc.Global.{Global}
+use Rattle.std.specs.declared.rc.Rc.{Rc}
 use Rattle.gp_tree.specs.declared.type_expr.TypeExpr as declared
 use Rattle.gp_tree.specs.declared.type_expr.FunParamExpr as declared_parameter
 use Rattle.gp_tree.specs.declared.type_expr.TypeExpr.{TypeExpr}
@@ -64,6 +66,9 @@ type_expressions ts = types_of (map type_expression ts)
 
 abbrev pub parameter_types : List declared_parameter.FunParamExpr → ParameterTypes
 parameter_types ps = parameters_of (map parameter_type ps)
+
+abbrev pub result_type : Option (Rc TypeExpr Global) → ResultType
+result_type t = result_of (option_map type_expression (option_map rc_value t))
 
 abbrev pub maybe_type : Option TypeExpr → Option TypeExpression
 maybe_type None = None

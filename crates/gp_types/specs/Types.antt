@@ -55,3 +55,8 @@ params_of (p ∷ ps) = param p.ty p.mode (params_of ps)
 abbrev pub answer_of : Option Ty → Answer
 answer_of None = no_answer
 answer_of (Some t) = answers t
+
+-- the type of what is answered, where something is
+abbrev pub answered : Answer → Option Ty
+answered no_answer = None
+answered (answers t) = Some t

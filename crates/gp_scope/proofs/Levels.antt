@@ -174,7 +174,7 @@ size-positive types.Bool = omega arith
 size-positive types.Qubit = omega arith
 size-positive (types.Tuple items) = omega arith
 size-positive (types.Struct name fields) = omega arith
-size-positive (types.Function params answer) = omega arith
+size-positive (types.Function ps r) = omega arith
 
 size-basic : (q : List ℕ) → size (basic_type q) ≡ 1
 size-basic q = go (bytes_eq q (codes "int")) (bytes_eq q (codes "bool"))

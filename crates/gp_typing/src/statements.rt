@@ -312,7 +312,7 @@ fn annotated(
         ≡ typed.annotated line name.now (type_expression written.now) (value_view value).tree) }
 {
     let name = name.copy()?;
-    let written = written.copy(alloc)?;
+    let written = written.copy()?;
     Ok(TypedStmtKind::Annotated(line, name, written, into_expr(value)))
 }
 

@@ -127,7 +127,7 @@ fn types_are_copied(rt: HostRuntime) -> Result<(), Fail> {
     let mut parts = TypeExprs::new(rt.alloc());
     parts.push(TypeExpr::Named(name(rt.alloc(), "int")?))?;
     parts.push(TypeExpr::Named(name(rt.alloc(), "qubit")?))?;
-    let TypeExpr::Tuple(copies) = TypeExpr::Tuple(parts).copy(rt.alloc())? else {
+    let TypeExpr::Tuple(copies) = TypeExpr::tuple(parts)?.copy()? else {
         return Err("no tuple".into());
     };
     let [TypeExpr::Named(first), TypeExpr::Named(second)] = copies.as_slice() else {

@@ -146,9 +146,9 @@ fn check_parameter_types(
     requires { AreNames names.now }
     ensures { Answers result (spec.parameter_types_fault (program_items names.now.items.now) line (parameter_types params.now)) }
 {
-    for param in params {
-        check_type(names, line, &param.ty)?;
-        check_mark(names, line, param.owned)?;
+    for taken in params {
+        check_type(names, line, &taken.ty)?;
+        check_mark(names, line, taken.owned)?;
     }
     Ok(())
 }

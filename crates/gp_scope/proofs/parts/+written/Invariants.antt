@@ -10,7 +10,7 @@ invariant-check_types-loop-item l =
     spec.types_fault (program_items l.names.items.now) l.line (type_expressions (drop l.item-index l.items))
     ≡ spec.types_fault (program_items l.names.items.now) l.line (type_expressions l.items)
 
-abbrev pub invariant-check_parameter_types-loop-param : goal.invariant-check_parameter_types-loop-param
-invariant-check_parameter_types-loop-param l =
-    spec.parameter_types_fault (program_items l.names.items.now) l.line (parameter_types (drop l.param-index l.params))
+abbrev pub invariant-check_parameter_types-loop-taken : goal.invariant-check_parameter_types-loop-taken
+invariant-check_parameter_types-loop-taken l =
+    spec.parameter_types_fault (program_items l.names.items.now) l.line (parameter_types (drop l.taken-index l.params))
     ≡ spec.parameter_types_fault (program_items l.names.items.now) l.line (parameter_types l.params)

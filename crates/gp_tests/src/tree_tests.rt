@@ -154,7 +154,7 @@ fn function_types_have_their_parts(rt: HostRuntime) -> Result<(), Fail> {
     params.push(FunParamExpr { ty, owned: true })?;
     let answer = TypeExpr::Named(name(alloc, "bool")?);
     let made = TypeExpr::function(alloc, params, Some(answer))?.copy()?;
-    let TypeExpr::Callable(params, Some(answer)) = made else {
+    let TypeExpr::Callable(params, Some(answer)) = &made else {
         return Err("no function type with an answer".into());
     };
     let [param] = params.as_slice() else {

@@ -52,6 +52,7 @@ world_reported (Some t) (Some (values.boolean b)) = record { relates = λ w. IsS
 world_reported (Some t) (Some (values.qubit q)) = stop_relates IsCleanBetween clean_step Stuck
 world_reported (Some t) (Some (values.tuple q)) = stop_relates IsCleanBetween clean_step Stuck
 world_reported (Some t) (Some (values.structure q)) = stop_relates IsCleanBetween clean_step Stuck
+world_reported (Some t) (Some (values.function q)) = stop_relates IsCleanBetween clean_step Stuck
 
 performed_clean : (b : Builtin) (tag : Option (List ℕ)) (vs : List Value) → W (performed b tag vs)
 performed_clean built_in.Qubit tag vs = world_bind _ _ (allocate_relates IsCleanBetween clean_step) (λ q. world_gives (Some (values.qubit q)) [])

@@ -16,9 +16,9 @@ use Rattle.gp_tree.specs.Expression.{Expression, Expressions, expression, expres
 use Rattle.gp_types.specs.Types as types
 use Rattle.gp_typing.specs.declared.context.Context.{Context}
 use Rattle.gp_typing.specs.declared.fault.TypeFault.{TypeFault}
-use Rattle.gp_typing.specs.declared.fault.TypeFault.TheVariants.{Memory, Mismatch, UnknownName}
+use Rattle.gp_typing.specs.declared.fault.TypeFault.TheVariants.{Memory, Mismatch}
 use Rattle.gp_typing.specs.code.CallView.{call_in, callee_in, tag_of}
-use Rattle.gp_typing.specs.Checks.{Checked, ◌>>=◌, check, found, Answers}
+use Rattle.gp_typing.specs.Checks.{Checked, ◌>>=◌, check, Answers}
 use Rattle.gp_locals.specs.Callee.{Callee, takes_tag}
 use Rattle.gp_locals.specs.Environment.{Names, Environment}
 use Rattle.gp_locals.specs.Tag.{is_tag}

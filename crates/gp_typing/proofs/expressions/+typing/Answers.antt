@@ -8,7 +8,7 @@ use Rattle.gp_locals.specs.CalleeView.{callee_view}
 use Rattle.gp_typing.specs.Checks.{Answers}
 use Rattle.gp_typing.specs.code.Operations.{place_in, minus_of, negation_of, binary_of, both_of, either_of, choice_of}
 use Rattle.gp_typing.specs.View.{expression_view}
-use Rattle.gp_typing.proofs.Binds.{bind-err, bind-ok, exits, ends, one-err, one-ok, two-err, two-err-2, two-ok, three-err, three-err-2, three-err-3, three-ok, number-typed, boolean-typed, text-typed, place-typed, minus-typed, negation-typed, binary-typed, both-typed, either-typed, choice-typed, tuple-typed, call-typed, call-no-values, call-called, values-step, values-err, values-end}
+use Rattle.gp_typing.proofs.Binds.{bind-err, bind-ok, exits, ends, one-err, one-ok, two-err, two-err-2, two-ok, three-err, three-err-2, three-err-3, three-ok, number-typed, boolean-typed, text-typed, place-typed, minus-typed, negation-typed, binary-typed, both-typed, either-typed, choice-typed, tuple-typed, call-typed, call-none, call-no-values, call-called, values-step, values-err, values-end}
 use Rattle.gp_typing.proofs.expressions.+typing.Goals as goal
 
 pub type_expr-returns-in-Int : goal.type_expr-returns-in-Int
@@ -187,3 +187,8 @@ pub type_values-returns : goal.type_values-returns
 type_values-returns t c =
     values-end c.args.context.now c.args.exprs.now c.loop-i.i (map expression_view c.loop-i.values.exprs.items) (map ty_view c.loop-i.values.types.items)
     (values_in c.args.context.now (expressions (drop c.args.first c.args.exprs.now))) c.loop-i.invariant c.loop-i-test.false
+
+pub type_call-returns-in_err-callee : goal.type_call-returns-in_err-callee
+type_call-returns-in_err-callee t c =
+    exits expression_view c.from_residual.result (call_in c.args.context.now c.args.name.now (expressions c.args.arguments.now)) c.in_err-callee.field-0.0 c.from_residual.ensures.1
+    (λ n. call-none c.args.context.now c.args.name.now c.args.arguments.now c.in_err-callee.field-0.0 (ap (callee_in c.args.context.now) (sym c.as_str.ensures) ∙ c.in_err-callee.ensures n))

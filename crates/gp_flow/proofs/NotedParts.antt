@@ -2,18 +2,23 @@
 use Rattle.std.proofs.Common.{◌≡◌, ◌==◌, ℕ, ◌+◌, Bool, true, false, ◌||◌, List, [], ◌∷◌, ◌++◌, append_assoc, map, length, length-append, Option, Some, None, is_some, refl, sym, ap, ap₂, subst, ◌∙◌, arith}
 use Rattle.std.proofs.lemmas.List.{append-nil, map-append, length-map}
 use Rattle.gp_base.specs.declared.name.LineNo.{LineNo}
-use Rattle.gp_locals.specs.Environment.{Names, NameType, Environment, join_reached, put}
+use Rattle.gp_locals.specs.Environment.{Names, NameType, Environment, join_reached, nothing_usable, put}
+use Rattle.gp_locals.specs.Locals.{locals}
+use Rattle.gp_types.specs.Signature.{parameter_names}
 use Rattle.gp_types.specs.Types as types
 use Rattle.gp_typing.proofs.Joins.{after-assoc}
+use Rattle.gp_typing.specs.Functions.{with_parameters}
 use Rattle.gp_typing.specs.Statements.{Ends, goes_on, one_of}
 use Rattle.gp_typing.specs.Typed as typed
-use Rattle.gp_typing.specs.Typed.{TypedExpression, TypedStatementKind, TypedStatements, behind}
+use Rattle.gp_typing.specs.Typed.{TypedExpression, TypedStatementKind, TypedStatements, TypedBlock, TypedFunction, behind}
 use Rattle.gp_typing.specs.View.{statements_view}
 use Rattle.gp_typing.specs.declared.typed.TypedStmt.{TypedStmt}
 use Rattle.gp_flow.specs.Blocks.{Part, part, parts, kind_part, is_endless}
-use Rattle.gp_flow.specs.Usable.{Info, info, info_if, Note, note_in, Noted, noted, noted_if, noted_loop, noted_while, noted_after, body_number, kind_noted, each_noted}
+use Rattle.gp_flow.specs.Usable.{Info, info, info_if, Note, note_in, Noted, noted, noted_if, noted_loop, noted_while, noted_after, body_number, kind_noted, each_noted, body_noted, names_of, start_of, notes}
+use Rattle.gp_flow.specs.Untyped.{untyped_block, untyped_statements}
 use Rattle.gp_flow.specs.code.Noting.{Adds, info_where}
 use Rattle.gp_flow.specs.declared.ends.Ends as ends
+use Rattle.gp_flow.proofs.Branches.{no_items}
 use Rattle.gp_flow.proofs.Environments.{join_none, join_some}
 use Rattle.gp_flow.proofs.Numbers.{Agrees, kind_agrees, each_agrees}
 
@@ -47,6 +52,14 @@ module _ (names : Names) (cs : List ℕ) where
   pub nothing_added : (a : List Note) (made : ends.Ends) (next breaks : Option Environment) (x : Ends) → made.next ≡ x.next → made.breaks ≡ x.breaks → Adds names a a made (noted [] x)
   nothing_added a made next breaks x e f = record { notes = sym (append-nil a); next = e; breaks = f }
 
+  -- the statements of a block in memory, walked from here
+  pub walked : (s0 s1 : List Note) (made : ends.Ends) (start here : Environment) (xs ys : List TypedStmt) → start ≡ here → xs ≡ ys
+      → ((n : ℕ) → length s0 ≡ n + 1 → Adds names s0 s1 made (each_noted names cs n (Some start) (statements_view xs)))
+      → (n : ℕ) → length s0 ≡ n + 1 → Adds names s0 s1 made (each_noted names cs n (Some here) (statements_view ys))
+  walked s0 s1 made start here xs ys e f walk n many =
+      subst (λ (z : Environment). Adds names s0 s1 made (each_noted names cs n (Some z) (statements_view ys))) e
+      (subst (λ (zs : List TypedStmt). Adds names s0 s1 made (each_noted names cs n (Some start) (statements_view zs))) f (walk n many))
+
   -- ---- an `if`
 
   module _ (n : ℕ) (e : Environment) (line : LineNo) (test : TypedExpression) (s0 s1 s2 s3 : List Note) (first made : ends.Ends) (body : TypedStatements)
@@ -66,7 +79,7 @@ module _ (names : Names) (cs : List ℕ) where
         → s3 ≡ s2 ++ shown (info_where (join_reached first.next (Some e)) cs)
         → made.next ≡ join_reached first.next (Some e) → made.breaks ≡ join_reached first.breaks None
         → Adds names s0 s3 made (kind_noted names cs n e (typed.if_else line test (typed.block body reached) (typed.block (statements_view others) reached_too)))
-    alone_added (x ∷ xs) h f g k = absurd cc
+    alone_added (x ∷ xs) h f g k = absurd (no_items x xs h)
     alone_added [] h f g k =
         let o = join_reached first.next (Some e) in
         let p = join_reached then_part.ends.next (Some e) in
@@ -97,10 +110,10 @@ module _ (names : Names) (cs : List ℕ) where
         let B = each_agrees names cs m e ss in
         let to3 : s3 ≡ s0 ++ shown ((info e cs ∷ then_part.infos) ++ info e cs ∷ []) = then_notes s0 s2 s3 (info e cs ∷ then_part.infos) (info e cs ∷ []) so_far_then between in
         let number : length s3 ≡ m + 1 =
-            let l = longer s0 s3 ((info e cs ∷ then_part.infos) ++ info e cs ∷ []) n to3 many in
-            let j = length-append (info e cs ∷ then_part.infos) (info e cs ∷ []) in
-            let i = A.last in
-            omega arith in
+        let l = longer s0 s3 ((info e cs ∷ then_part.infos) ++ info e cs ∷ []) n to3 many in
+        let j = length-append (info e cs ∷ then_part.infos) (info e cs ∷ []) in
+        let i = A.last in
+        omega arith in
         let C : Adds names s3 s4 second else_part = other m number in
         let o = join_reached first.next second.next in
         let p = join_reached then_part.ends.next else_part.ends.next in
@@ -178,12 +191,12 @@ module _ (names : Names) (cs : List ℕ) where
   -- ---- statements one after another
 
   -- The statements that are left, walked from here, complete the whole.
-  pub record Rest (old now : List Note) (here : Environment) (breaks : Option Environment) (rest : TypedStatements) (whole : Noted) : Type 0 where
+  pub record Rest (old now : List Note) (here : Environment) (broken : Option Environment) (rest : TypedStatements) (whole : Noted) : Type 0 where
     pub number : ℕ
     pub many : length now ≡ number + 1
     pub notes : now ++ shown (each_noted names cs number (Some here) rest).infos ≡ old ++ shown whole.infos
     pub next : (each_noted names cs number (Some here) rest).ends.next ≡ whole.ends.next
-    pub breaks : join_reached breaks (each_noted names cs number (Some here) rest).ends.breaks ≡ whole.ends.breaks
+    pub breaks : join_reached broken (each_noted names cs number (Some here) rest).ends.breaks ≡ whole.ends.breaks
 
   pub rest_begins : (n : ℕ) (old : List Note) (start : Environment) (ss : TypedStatements) → length old ≡ n + 1 → Rest old old start None ss (each_noted names cs n (Some start) ss)
   rest_begins n old start ss h = record { number = n; many = h; notes = refl; next = refl; breaks = refl }
@@ -217,7 +230,7 @@ module _ (names : Names) (cs : List ℕ) where
         let m = (kind_part k).last R.number in
         let y = each_noted names cs m (Some next) ss in
         let x : noted_after (kind_part k).ends one (each_noted names cs m one.ends.next ss) ≡ noted_after true one y =
-            ap (λ b. noted_after b one (each_noted names cs m one.ends.next ss)) d ∙ ap (λ o. noted_after true one (each_noted names cs m o ss)) (sym A.next ∙ h) in
+        ap (λ b. noted_after b one (each_noted names cs m one.ends.next ss)) d ∙ ap (λ o. noted_after true one (each_noted names cs m o ss)) (sym A.next ∙ h) in
         record {
           number = m;
           many = let l = longer now new one.infos R.number A.notes R.many in let i = G.last in omega arith;
@@ -231,3 +244,24 @@ module _ (names : Names) (cs : List ℕ) where
   pub rest_ends : (old now : List Note) (here : Environment) (breaks : Option Environment) (whole : Noted) (made : ends.Ends) → Rest old now here breaks typed.no_statements whole
       → made.next ≡ Some here → made.breaks ≡ breaks → Adds names old now made whole
   rest_ends old now here breaks whole made R f g = record { notes = sym (append-nil now) ∙ R.notes; next = f ∙ R.next; breaks = g ∙ sym (join_none breaks) ∙ R.breaks }
+
+-- ---- a function
+
+module _ (f : TypedFunction) (ss : TypedStatements) (reached : Bool) (body : f.body ≡ typed.block ss reached) where
+  pub same_names : (names : Names) → names ≡ locals (parameter_names f.signature.params) (untyped_statements ss) → names ≡ names_of f
+  same_names names h = h ∙ ap (λ (b : TypedBlock). locals (parameter_names f.signature.params) (untyped_block b)) (sym body)
+
+  pub same_start : (names : Names) (start : Environment) → names ≡ names_of f → start ≡ with_parameters names (nothing_usable names) f.signature.params → start ≡ start_of f
+  same_start names start h e = e ∙ ap (λ (n : Names). with_parameters n (nothing_usable n) f.signature.params) h
+
+  -- the entry's note, and those behind it
+  pub function_noted : (names : Names) (start : Environment) (s0 s1 s2 : List Note) (made : ends.Ends) → names ≡ names_of f → start ≡ start_of f → s0 ≡ [] → s1 ≡ s0 ++ note_in names (info start []) ∷ []
+      → ((n : ℕ) → length s1 ≡ n + 1 → Adds names s1 s2 made (each_noted names [] n (Some start) ss)) → s2 ≡ notes f
+  function_noted names start s0 s1 s2 made n e empty entry walk =
+      let one : s1 ≡ note_in names (info start []) ∷ [] = entry ∙ ap (λ z. z ++ note_in names (info start []) ∷ []) empty in
+      let A : Adds names s1 s2 made (each_noted names [] 0 (Some start) ss) = walk 0 (ap length one) in
+      A.notes ∙ ap (λ z. z ++ map (note_in names) (each_noted names [] 0 (Some start) ss).infos) one ∙ ap₂ whole n e
+      ∙ sym (ap (λ (b : TypedBlock). map (note_in (names_of f)) (info (start_of f) [] ∷ (body_noted (names_of f) (start_of f) b).infos)) body)
+    where
+      whole : Names → Environment → List Note
+      whole n e = note_in n (info e []) ∷ map (note_in n) (each_noted n [] 0 (Some e) ss).infos

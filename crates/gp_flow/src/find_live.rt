@@ -4,9 +4,9 @@ ghost use Rattle.std.specs.Prelude.{◌≡◌, ◌↔◌, ℕ, IsTrue, IfOk, Som
 ghost use Rattle.gp_types.specs.Signature.{signature_view};
 ghost use Rattle.gp_flow.specs.code.Marking.{IsKnown};
 ghost use Rattle.gp_flow.specs.Live.{IsLive, Those};
-ghost use Rattle.gp_flow.specs.LeafView.{leaf_view, leaves_at};
+ghost use Rattle.gp_flow.specs.LeafView.{leaf_view};
 ghost use Rattle.gp_flow.specs.LiveView.{live_in, AreLive};
-ghost use Rattle.gp_flow.specs.View.{block_view, usable_in};
+ghost use Rattle.gp_flow.specs.View.{block_view, usable_at, usable_in};
 
 use crate::flow::{Flow, Flows};
 use crate::known::Known;
@@ -25,22 +25,24 @@ pub fn live(alloc: Global, flows: &Flows<'_>) -> Result<Live, AllocError>
 {
     let mut made = Sequence::new(alloc);
     for flow in flows.flows.as_slice() {
-        made.push(live_flow(alloc, flow)?)?;
+        let one = live_flow(alloc, flow)?;
+        made.push(one)?;
     }
     Ok(Live { flows: made })
 }
 
 // The live leaves of each block of a function. Blocks one behind another that have the same share them.
 fn live_flow(alloc: Global, flow: &Flow) -> Result<Vec<Rc<Leaves>>, AllocError>
-    ensures { IfOk result (λ made. (block : ℕ) → AreLive (Some flow.now) block (option_map (λ note. leaves_at note.lists.value) (slice_get flow.now.notes.items block))
-        (option_map (λ found. map leaf_view found.value) (slice_get made.items block))) }
+    ensures { IfOk result (λ made. (block : ℕ) → AreLive (Some flow.now) block (usable_at (Some flow.now) block) (option_map (λ found. map leaf_view found.value) (slice_get made.items block))) }
 {
     let mut known = Known::new(alloc, flow)?;
     let mut made: Vec<Rc<Leaves>> = Vec::new(alloc);
     for note in &flow.notes {
-        let live = live_at(alloc, flow, &mut known, made.len() as u64, note.lists.leaves().as_slice())?;
-        let live = share(alloc, &made, live)?;
-        made.push(live)?;
+        let block = made.len() as u64;
+        let usable = note.lists.leaves();
+        let live = live_at(alloc, flow, &mut known, block, usable.as_slice())?;
+        let shared = share(alloc, &made, live)?;
+        made.push(shared)?;
     }
     Ok(made)
 }
@@ -69,8 +71,10 @@ fn live_at(
 {
     let mut live = Leaves::new(alloc);
     for leaf in usable {
-        if is_live(alloc, flow, known, block, leaf)? {
-            live.push(copy_leaf(alloc, leaf)?)?;
+        let taken = is_live(alloc, flow, known, block, leaf)?;
+        if taken {
+            let copy = copy_leaf(alloc, leaf)?;
+            live.push(copy)?;
         }
     }
     Ok(live)

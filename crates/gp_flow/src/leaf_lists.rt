@@ -32,12 +32,7 @@ pub fn leaves_of(alloc: Global, names: &[NameType]) -> Result<Leaves, AllocError
 
 // Adds the leaves of a place of this type.
 #[cycle(add_leaves)]
-fn add_leaves(
-    alloc: Global,
-    found: &mut Leaves,
-    place: &Place,
-    ty: &Ty,
-) -> Result<(), AllocError>
+fn add_leaves(alloc: Global, found: &mut Leaves, place: &Place, ty: &Ty) -> Result<(), AllocError>
     ensures { OnOk result (map leaf_view found.new ≡ map leaf_view found.old ++ map (under place.now) (leaves (ty_view ty.now))) }
 {
     match ty {

@@ -31,7 +31,14 @@ pub fn note_function(alloc: Global, function: &TypedFunction) -> Result<Vec<Note
     let mut start = start_of(alloc, &names, params)?;
     let mut notes = Notes::new(alloc);
     notes.add(alloc, &names, &counters, &mut start)?;
-    note_block(alloc, &names, &mut notes, &counters, start, &function.body.stmts)?;
+    note_block(
+        alloc,
+        &names,
+        &mut notes,
+        &counters,
+        start,
+        &function.body.stmts,
+    )?;
     Ok(notes.made)
 }
 

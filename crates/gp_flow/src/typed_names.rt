@@ -1,6 +1,6 @@
 //! The names of a typed function.
 
-ghost use Rattle.std.specs.Prelude.{◌≡◌, ◌++◌, IfOk, OnOk, map};
+ghost use Rattle.std.specs.Prelude.{◌≡◌, [], ◌∷◌, ◌++◌, IfOk, OnOk, map};
 ghost use Rattle.gp_locals.specs.Locals.{locals, names_of_block};
 ghost use Rattle.gp_types.specs.Signature.{parameter_names, parameter_view};
 ghost use Rattle.gp_typing.specs.View.{statement_kind_view, statements_view};

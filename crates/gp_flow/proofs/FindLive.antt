@@ -2,9 +2,17 @@
 use Rattle.std.proofs.Common.{◌≡◌, ℕ, zero, suc, ◌+◌, ◌<◌, ◌≤◌, ◌⊎◌, inl, inr, true, false, List, [], ◌∷◌, ◌++◌, Option, Some, None, map, option_map, length, get_or, take, slice_get, refl, sym, ap, subst, ◌∙◌, arith}
 use Rattle.std.proofs.lemmas.Bool.{cases_lt}
 use Rattle.std.proofs.lemmas.List.{take_more, take_all}
+use Rattle.std.proofs.lemmas.Option.{slice_get_past}
+use Rattle.std.specs.Option.{option_and_then}
 use Rattle.gp_types.specs.Leaves.{Leaf}
-use Rattle.gp_flow.specs.Live.{Those, no_leaves, taken, left_out}
-use Rattle.gp_flow.specs.LeafView.{leaf_view}
+use Rattle.gp_types.specs.Signature.{signature_view}
+use Rattle.gp_flow.specs.Live.{IsLive, Those, no_leaves, taken, left_out}
+use Rattle.gp_flow.specs.LeafView.{leaf_view, leaves_at}
+use Rattle.gp_flow.specs.LiveView.{AreLive}
+use Rattle.gp_flow.specs.Usable as usable
+use Rattle.gp_flow.specs.View.{block_view, note_view, usable_at}
+use Rattle.gp_flow.specs.declared.flow.Flow.{Flow}
+use Rattle.gp_flow.specs.declared.usable.Note.{Note}
 use Rattle.gp_flow.specs.declared.usable.Leaf as declared
 
 module _ (P : Leaf → Type 0) where
@@ -71,3 +79,35 @@ each_more Q xs new y i l is before here k h = go (cases_lt k i)
 
 pub different : false ≡ true → ⊥
 different e = cc
+
+-- ---- blocks and functions
+
+module _ (f : Flow) where
+  abbrev pub is_live_at : ℕ → Leaf → Type 0
+  is_live_at i leaf = IsLive (signature_view f.signature) (map block_view f.blocks.items) i leaf
+
+  pub here_live : (i : ℕ) (note : Note) (us ls : List Leaf) → slice_get f.notes.items i ≡ Some note → us ≡ leaves_at note.lists.value → Those (is_live_at i) us ls → AreLive (Some f) i (usable_at (Some f) i) (Some ls)
+  here_live i note us ls at e r =
+      subst (λ (o : Option Note). AreLive (Some f) i (option_map usable.Note.leaves (option_map note_view o)) (Some ls)) (sym at) (subst (λ (xs : List Leaf). Those (is_live_at i) xs ls) e r)
+
+  pub all_live : {A : Type 0} (see : A → List Leaf) (made : List A) (i : ℕ) → length f.notes.items ≤ i → length made ≡ i
+      → ((k : ℕ) → k < i → AreLive (Some f) k (usable_at (Some f) k) (option_map see (slice_get made k)))
+      → (k : ℕ) → AreLive (Some f) k (usable_at (Some f) k) (option_map see (slice_get made k))
+  all_live see made i past long each k = go (cases_lt k i)
+    where
+      go : (k < i) ⊎ (i ≤ k) → AreLive (Some f) k (usable_at (Some f) k) (option_map see (slice_get made k))
+      go (inl h) = each k h
+      go (inr h) =
+          subst (λ (o : Option Note). AreLive (Some f) k (option_map usable.Note.leaves (option_map note_view o)) (option_map see (slice_get made k))) (sym (slice_get_past f.notes.items k (omega arith)))
+          (ap (option_map see) (slice_get_past made k (omega arith)))
+
+pub no_function : {A : Type 0} (flows : List Flow) (see : ℕ → A → Option (List Leaf)) (made : List A) (i : ℕ) → length flows ≤ i → length made ≡ i
+    → ((flow : ℕ) → flow < i → (block : ℕ) → AreLive (slice_get flows flow) block (usable_at (slice_get flows flow) block) (option_and_then (see block) (slice_get made flow)))
+    → (flow block : ℕ) → AreLive (slice_get flows flow) block (usable_at (slice_get flows flow) block) (option_and_then (see block) (slice_get made flow))
+no_function flows see made i past long each flow block = go (cases_lt flow i)
+  where
+    go : (flow < i) ⊎ (i ≤ flow) → AreLive (slice_get flows flow) block (usable_at (slice_get flows flow) block) (option_and_then (see block) (slice_get made flow))
+    go (inl h) = each flow h block
+    go (inr h) =
+        subst (λ (o : Option Flow). AreLive o block (usable_at o block) (option_and_then (see block) (slice_get made flow))) (sym (slice_get_past flows flow (omega arith)))
+        (ap (option_and_then (see block)) (slice_get_past made flow (omega arith)))

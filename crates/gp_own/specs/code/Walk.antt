@@ -1,15 +1,22 @@
 -- The check over blocks: each block once, in text order, with a table of what came to each block. A difference between what
 -- came to the head of a loop is a fault only where the loop ends, behind the faults of its body; one of what came to another
 -- block is a fault where that block is looked at.
-use Rattle.std.specs.Prelude.{ℕ, ◌+◌, ◌==◌, Bool, true, false, ◌&&◌, not, if◌then◌else◌, List, [], ◌∷◌, Option, Some, None, Ok}
+use Rattle.std.specs.Prelude.{◌≡◌, ℕ, ◌+◌, ◌==◌, Bool, true, false, ◌&&◌, not, if◌then◌else◌, List, [], ◌∷◌, map, slice_index_or, Option, Some, None, Ok}
 use Rattle.gp_base.specs.declared.name.LineNo.{LineNo}
 use Rattle.gp_tree.specs.declared.place.Targets.TheVariants as targets
+use Rattle.gp_locals.specs.Environment.{Names, Environment, usable}
+use Rattle.gp_scope.specs.Known.{Known}
+use Rattle.gp_tree.specs.Program.{FunctionDefinition}
+use Rattle.gp_typing.specs.Functions.{function_typing}
+use Rattle.gp_typing.specs.Typed.{TypedFunction}
 use Rattle.gp_flow.specs.Blocks as flow
 use Rattle.gp_flow.specs.Blocks.{BlockKind, Step, BlockEnd, FlowBlock}
+use Rattle.gp_flow.specs.Blocks.{flow_of}
+use Rattle.gp_flow.specs.Usable.{Info, infos, names_of}
 use Rattle.gp_own.specs.declared.fault.OwnFault.TheVariants.{Dropped, Overwritten, OnePathOnly, LoopChangesHeld}
 use Rattle.gp_own.specs.Checks.{Owned, ◌>>=◌, check}
-use Rattle.gp_own.specs.Held.{Held, NameTypes, same_held, is_free}
-use Rattle.gp_own.specs.Ownership.{Frame, Assigned, type_of_tree, owned_expression, owned_targets, is_linear_value, at_return}
+use Rattle.gp_own.specs.Held.{Held, NameTypes, types_in, same_held, is_free}
+use Rattle.gp_own.specs.Ownership.{Frame, Assigned, type_of_tree, owned_expression, owned_targets, is_linear_value, at_return, frame_of, parameter_leaves, owned_function}
 
 -- ---- what came to blocks
 
@@ -118,6 +125,22 @@ walked F types k (b ∷ bs) os table =
 abbrev pub owned_blocks : Frame → (ℕ → NameTypes) → Held → List FlowBlock → Owned Table
 owned_blocks F types h bs = walked F types 0 bs [] (put_in no_table 0 h)
 
+-- the environment at the start of a block
+abbrev pub environment_at : List Info → ℕ → Environment
+environment_at is k = slice_index_or (map Info.environment is) k []
+
+-- the types of names at the start of each block of a function with these names
+abbrev pub types_of_blocks : Names → List Info → ℕ → NameTypes
+types_of_blocks names is k = types_in (usable names (environment_at is k))
+
 -- the fault alone
 abbrev pub only_fault : {A : Type 0} → Owned A → Owned (Unit {0})
 only_fault m = m >>= λ _. Ok tt
+
+-- ---- the law
+
+-- Of each function that passed the typing phase, the walk over its blocks answers what the rules on its tree answer, the
+-- first fault and its line included.
+pub record WalkIsTheRules : Type 0 where
+  pub same : (known : Known) (d : FunctionDefinition) (f : TypedFunction) → function_typing known d ≡ Ok f
+      → only_fault (owned_blocks (frame_of known f) (types_of_blocks (names_of f) (infos f)) (parameter_leaves f.signature.params) (flow_of f).blocks) ≡ owned_function known f

@@ -61,22 +61,31 @@ same_swap g h =
 -- ---- answers that are the same
 
 -- the same fault, or both pass, with what is the same in this sense
-abbrev pub Both : {A : Type 0} → (A → A → Type 0) → Owned A → Owned A → Type 0
-Both R (Ok a) (Ok b) = R a b
-Both R (Err f) (Err g) = f ≡ g
-Both R (Ok a) (Err g) = ⊥
-Both R (Err f) (Ok b) = ⊥
+abbrev pub BothAt : {A : Type 0} → (A → A → Type 0) → Owned A → Owned A → Type 0
+BothAt R (Ok a) (Ok b) = R a b
+BothAt R (Err f) (Err g) = f ≡ g
+BothAt R (Ok a) (Err g) = ⊥
+BothAt R (Err f) (Ok b) = ⊥
+
+pub record Both {A : Type 0} (R : A → A → Type 0) (m n : Owned A) : Type 0 where
+  pub at : BothAt R m n
+
+pub both_ok : {A : Type 0} {R : A → A → Type 0} {a b : A} → R a b → Both R (Ok a) (Ok b)
+both_ok h = record { at = h }
+
+pub both_err : {A : Type 0} {R : A → A → Type 0} {f : OwnFault} → Both R (Err f) (Err f)
+both_err = record { at = refl }
 
 pub both_bind : {A B : Type 0} (P : A → A → Type 0) (Q : B → B → Type 0) (m n : Owned A) (k l : A → Owned B)
     → Both P m n → ((a b : A) → P a b → Both Q (k a) (l b)) → Both Q (m >>= k) (n >>= l)
-both_bind P Q (Ok a) (Ok b) k l h f = f a b h
-both_bind P Q (Err f) (Err g) k l h i = h
-both_bind P Q (Ok a) (Err g) k l h i = absurd h
-both_bind P Q (Err f) (Ok b) k l h i = absurd h
+both_bind P Q (Ok a) (Ok b) k l h f = f a b h.at
+both_bind P Q (Err f) (Err g) k l h i = record { at = h.at }
+both_bind P Q (Ok a) (Err g) k l h i = absurd h.at
+both_bind P Q (Err f) (Ok b) k l h i = absurd h.at
 
 pub both_check : {A : Type 0} (Q : A → A → Type 0) (b c : Bool) (f : OwnFault) (m n : Owned A) → b ≡ c → Both Q m n → Both Q (check b f >>= λ _. m) (check c f >>= λ _. n)
 both_check Q true true f m n e h = h
-both_check Q false false f m n e h = refl
+both_check Q false false f m n e h = both_err
 both_check Q true false f m n e h = absurd cc
 both_check Q false true f m n e h = absurd cc
 
@@ -101,12 +110,12 @@ take_alike (l ∷ ls) g h a = go (λ x y. take_alike ls x y) (take_leaf l g) ref
       → (o : Option Held) → take_leaf l g ≡ o → (p : Option Held) → take_leaf l h ≡ p → IfAlike (then_take (take_leaves ls) o) (then_take (take_leaves ls) p)
   go ih None e None f = tt
   go ih (Some x) e (Some y) f = ih x y (record { same = λ m. let i = take_often m l g x e in let j = take_often m l h y f in let k = a.same m in omega arith })
-  go ih None e (Some y) f = let t = took l g (let i = is_there l y h f in let j = a.same l in omega arith) in no_none (take_leaf l g) t.0 e t.1
-  go ih (Some x) e None f = let t = took l h (let i = is_there l x g e in let j = a.same l in omega arith) in no_none (take_leaf l h) t.0 f t.1
+  go ih None e (Some y) f = let t = took l g (let i = is_there l y h f in let j = a.same l in omega arith) in absurd (no_none (take_leaf l g) t.0 e t.1)
+  go ih (Some x) e None f = let t = took l h (let i = is_there l x g e in let j = a.same l in omega arith) in absurd (no_none (take_leaf l h) t.0 f t.1)
 
 pub found_alike : (o p : Option Held) (f : OwnFault) → IfAlike o p → Both Alike (found o f) (found p f)
-found_alike None None f a = refl
-found_alike (Some g) (Some h) f a = a
+found_alike None None f a = both_err
+found_alike (Some g) (Some h) f a = both_ok a
 found_alike None (Some h) f a = absurd a
 found_alike (Some g) None f a = absurd a
 
@@ -151,7 +160,7 @@ pub record LentAlike (l m : Lent) : Type 0 where
   pub lent : l.lent ≡ m.lent
 
 pub ways_alike : (line : LineNo) (g g' h h' : Held) → Alike g g' → Alike h h' → Both Alike (same_ways line g h) (same_ways line g' h')
-ways_alike line g g' h h' a b = both_check Alike (same_held g h) (same_held g' h') (OnePathOnly line) (Ok g) (Ok g') (same_alike g g' h h' a b) a
+ways_alike line g g' h h' a b = both_check Alike (same_held g h) (same_held g' h') (OnePathOnly line) (Ok g) (Ok g') (same_alike g g' h h' a b) (both_ok a)
 
 module _ (F : own.Frame) (us : NameTypes) (line : LineNo) where
   abbrev own_of : Held → TypedExpression → Owned Held
@@ -161,41 +170,41 @@ module _ (F : own.Frame) (us : NameTypes) (line : LineNo) where
   taken_alike ls g h a =
       both_bind Alike Alike (found (take_leaves ls g) (GivenUp line)) (found (take_leaves ls h) (GivenUp line)) _ _
       (found_alike (take_leaves ls g) (take_leaves ls h) (GivenUp line) (take_alike ls g h a))
-      (λ x y b. both_check Alike (none_borrowed F.is_borrowed ls) (none_borrowed F.is_borrowed ls) (BorrowedTaken line) (Ok x) (Ok y) refl b)
+      (λ x y b. both_check Alike (none_borrowed F.is_borrowed ls) (none_borrowed F.is_borrowed ls) (BorrowedTaken line) (Ok x) (Ok y) refl (both_ok b))
 
   read_alike : (p : Place) (ty : Option Ty) (g h : Held) → Alike g h → Both Alike (read_place F us line p ty g) (read_place F us line p ty h)
-  read_alike p None g h a = a
+  read_alike p None g h a = both_ok a
   read_alike p (Some ty) g h a = taken_alike (place_leaves us p ty) g h a
 
   lend_leaves_alike : (ls : List HeldLeaf) (g h : Held) → Alike g h → Both LentAlike (lend_leaves line ls g) (lend_leaves line ls h)
   lend_leaves_alike ls g h a =
       both_bind Alike LentAlike (found (take_leaves ls g) (GivenUp line)) (found (take_leaves ls h) (GivenUp line)) _ _
       (found_alike (take_leaves ls g) (take_leaves ls h) (GivenUp line) (take_alike ls g h a))
-      (λ x y b. record { held = b; lent = refl })
+      (λ x y b. both_ok (record { held = b; lent = refl }))
 
   lend_place_alike : (p : Place) (ty : Option Ty) (g h : Held) → Alike g h → Both LentAlike (lend_place us line p ty g) (lend_place us line p ty h)
-  lend_place_alike p None g h a = record { held = a; lent = refl }
+  lend_place_alike p None g h a = both_ok (record { held = a; lent = refl })
   lend_place_alike p (Some ty) g h a = lend_leaves_alike (place_leaves us p ty) g h a
 
   give_alike : (m n : Owned Held) → Both Alike m n → Both LentAlike (give m) (give n)
-  give_alike m n a = both_bind Alike LentAlike m n _ _ a (λ x y b. record { held = b; lent = refl })
+  give_alike m n a = both_bind Alike LentAlike m n _ _ a (λ x y b. both_ok (record { held = b; lent = refl }))
 
   temporary : (m n : Owned Held) → Both Alike m n → Both LentAlike (m >>= λ _. Err (BorrowOfTemporary line)) (n >>= λ _. Err (BorrowOfTemporary line))
-  temporary m n a = both_bind Alike LentAlike m n _ _ a (λ x y b. refl)
+  temporary m n a = both_bind Alike LentAlike m n _ _ a (λ x y b. both_err)
 
   lend_alike : (t : TypedExpression) (g h : Held) → Alike g h → Both Alike (own_of g t) (own_of h t) → Both LentAlike (lend us line g t (own_of g t)) (lend us line h t (own_of h t))
   lend_alike (of_type o (typed.place p)) g h a b = lend_place_alike p o g h a
-  lend_alike (of_type o (typed.number n)) g h a b = temporary _ _ b
-  lend_alike (of_type o (typed.boolean n)) g h a b = temporary _ _ b
-  lend_alike (of_type o (typed.text n)) g h a b = temporary _ _ b
-  lend_alike (of_type o (typed.minus x)) g h a b = temporary _ _ b
-  lend_alike (of_type o (typed.negation x)) g h a b = temporary _ _ b
-  lend_alike (of_type o (typed.binary op x y)) g h a b = temporary _ _ b
-  lend_alike (of_type o (typed.both x y)) g h a b = temporary _ _ b
-  lend_alike (of_type o (typed.either x y)) g h a b = temporary _ _ b
-  lend_alike (of_type o (typed.choice c x y)) g h a b = temporary _ _ b
-  lend_alike (of_type o (typed.tuple es)) g h a b = temporary _ _ b
-  lend_alike (of_type o (typed.call name es)) g h a b = temporary _ _ b
+  lend_alike (of_type o (typed.number n)) g h a b = temporary (own_of g (of_type o (typed.number n))) (own_of h (of_type o (typed.number n))) b
+  lend_alike (of_type o (typed.boolean n)) g h a b = temporary (own_of g (of_type o (typed.boolean n))) (own_of h (of_type o (typed.boolean n))) b
+  lend_alike (of_type o (typed.text n)) g h a b = temporary (own_of g (of_type o (typed.text n))) (own_of h (of_type o (typed.text n))) b
+  lend_alike (of_type o (typed.minus x)) g h a b = temporary (own_of g (of_type o (typed.minus x))) (own_of h (of_type o (typed.minus x))) b
+  lend_alike (of_type o (typed.negation x)) g h a b = temporary (own_of g (of_type o (typed.negation x))) (own_of h (of_type o (typed.negation x))) b
+  lend_alike (of_type o (typed.binary op x y)) g h a b = temporary (own_of g (of_type o (typed.binary op x y))) (own_of h (of_type o (typed.binary op x y))) b
+  lend_alike (of_type o (typed.both x y)) g h a b = temporary (own_of g (of_type o (typed.both x y))) (own_of h (of_type o (typed.both x y))) b
+  lend_alike (of_type o (typed.either x y)) g h a b = temporary (own_of g (of_type o (typed.either x y))) (own_of h (of_type o (typed.either x y))) b
+  lend_alike (of_type o (typed.choice c x y)) g h a b = temporary (own_of g (of_type o (typed.choice c x y))) (own_of h (of_type o (typed.choice c x y))) b
+  lend_alike (of_type o (typed.tuple es)) g h a b = temporary (own_of g (of_type o (typed.tuple es))) (own_of h (of_type o (typed.tuple es))) b
+  lend_alike (of_type o (typed.call name es)) g h a b = temporary (own_of g (of_type o (typed.call name es))) (own_of h (of_type o (typed.call name es))) b
 
   one_alike : (c : Bool) (t : TypedExpression) (g h : Held) → Alike g h → Both Alike (own_of g t) (own_of h t)
       → Both LentAlike (if c then lend us line g t (own_of g t) else give (own_of g t)) (if c then lend us line h t (own_of h t) else give (own_of h t))
@@ -210,9 +219,9 @@ module _ (F : own.Frame) (us : NameTypes) (line : LineNo) where
 
   mutual
     pub expression_alike : (t : TypedExpression) (g h : Held) → Alike g h → Both Alike (own_of g t) (own_of h t)
-    expression_alike (of_type o (typed.number n)) g h a = a
-    expression_alike (of_type o (typed.boolean n)) g h a = a
-    expression_alike (of_type o (typed.text n)) g h a = a
+    expression_alike (of_type o (typed.number n)) g h a = both_ok a
+    expression_alike (of_type o (typed.boolean n)) g h a = both_ok a
+    expression_alike (of_type o (typed.text n)) g h a = both_ok a
     expression_alike (of_type o (typed.place p)) g h a = read_alike p o g h a
     expression_alike (of_type o (typed.minus x)) g h a = expression_alike x g h a
     expression_alike (of_type o (typed.negation x)) g h a = expression_alike x g h a
@@ -229,17 +238,17 @@ module _ (F : own.Frame) (us : NameTypes) (line : LineNo) where
         (λ u v w. both_bind Alike Alike (own_of u x) (own_of v x) _ _ (expression_alike x u v w)
         (λ i j b. both_bind Alike Alike (own_of u y) (own_of v y) _ _ (expression_alike y u v w) (λ k l d. ways_alike line i j k l b d)))
     expression_alike (of_type o (typed.tuple es)) g h a =
-        both_bind LentAlike Alike (owned_arguments F us line [] g es) (owned_arguments F us line [] h es) _ _ (arguments_alike es [] g h a) given_back
+        both_bind LentAlike Alike (owned_arguments F us line [] g es) (owned_arguments F us line [] h es) _ _ (arguments_alike es [] g h a) (λ l m b. both_ok (given_back l m b))
     expression_alike (of_type o (typed.call name es)) g h a =
         both_bind LentAlike Alike (owned_arguments F us line (modes_of (outside F.known name)) g es) (owned_arguments F us line (modes_of (outside F.known name)) h es) _ _
-        (arguments_alike es (modes_of (outside F.known name)) g h a) given_back
+        (arguments_alike es (modes_of (outside F.known name)) g h a) (λ l m b. both_ok (given_back l m b))
 
     pub arguments_alike : (es : TypedExpressions) (ms : List Mode) (g h : Held) → Alike g h → Both LentAlike (owned_arguments F us line ms g es) (owned_arguments F us line ms h es)
-    arguments_alike typed.no_expressions ms g h a = record { held = a; lent = refl }
+    arguments_alike typed.no_expressions ms g h a = both_ok (record { held = a; lent = refl })
     arguments_alike (typed.with_expression x es) [] g h a =
         both_bind LentAlike LentAlike (give (own_of g x)) (give (own_of h x)) _ _ (give_alike (own_of g x) (own_of h x) (expression_alike x g h a))
-        (λ l m b. both_bind LentAlike LentAlike (owned_arguments F us line [] l.held es) (owned_arguments F us line [] m.held es) _ _ (arguments_alike es [] l.held m.held b.held) (λ i j d. more_alike l m i j b d))
+        (λ l m b. both_bind LentAlike LentAlike (owned_arguments F us line [] l.held es) (owned_arguments F us line [] m.held es) _ _ (arguments_alike es [] l.held m.held b.held) (λ i j d. both_ok (more_alike l m i j b d)))
     arguments_alike (typed.with_expression x es) (mode ∷ ms) g h a =
         both_bind LentAlike LentAlike (if is_borrowed_mode mode then lend us line g x (own_of g x) else give (own_of g x)) (if is_borrowed_mode mode then lend us line h x (own_of h x) else give (own_of h x)) _ _
         (one_alike (is_borrowed_mode mode) x g h a (expression_alike x g h a))
-        (λ l m b. both_bind LentAlike LentAlike (owned_arguments F us line ms l.held es) (owned_arguments F us line ms m.held es) _ _ (arguments_alike es ms l.held m.held b.held) (λ i j d. more_alike l m i j b d))
+        (λ l m b. both_bind LentAlike LentAlike (owned_arguments F us line ms l.held es) (owned_arguments F us line ms m.held es) _ _ (arguments_alike es ms l.held m.held b.held) (λ i j d. both_ok (more_alike l m i j b d)))

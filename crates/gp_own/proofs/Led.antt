@@ -3,7 +3,8 @@ use Rattle.std.proofs.Common.{◌≡◌, ℕ, ◌+◌, ◌<◌, ◌≤◌, ◌==
 use Rattle.gp_base.specs.declared.name.LineNo.{LineNo}
 use Rattle.gp_typing.specs.Typed.{TypedExpression}
 use Rattle.gp_flow.specs.Blocks as flow
-use Rattle.gp_flow.specs.Blocks.{Exits, exits, Step, Onward, onward, Part, after_where, a_step, a_break, a_continue, a_return}
+use Rattle.gp_flow.specs.declared.builder.Exits.{Exits}
+use Rattle.gp_flow.specs.Blocks.{exits, Step, Onward, onward, Part, after_where, a_step, a_break, a_continue, a_return}
 use Rattle.gp_flow.proofs.Places.{eq_self, eq_later, eq_earlier}
 use Rattle.std.proofs.lemmas.Bool.Decides.{Decides-eqb}
 use Rattle.gp_own.specs.Checks.{Owned, ◌>>=◌, check}
@@ -93,10 +94,10 @@ abbrev pub Respects : (Holds → Owned (Unit {0})) → Type 0
 Respects k = (u v : Holds) → HoldsAlike u v → k u ≡ k v
 
 pub respects_on : (m n : Owned Holds) (k : Holds → Owned (Unit {0})) → Respects k → Both HoldsAlike m n → (m >>= k) ≡ (n >>= k)
-respects_on (Ok a) (Ok b) k r h = r a b h
-respects_on (Err f) (Err g) k r h = ap (λ z. Err z) h
-respects_on (Ok a) (Err g) k r h = absurd h
-respects_on (Err f) (Ok b) k r h = absurd h
+respects_on (Ok a) (Ok b) k r h = r a b h.at
+respects_on (Err f) (Err g) k r h = ap (λ z. Err z) h.at
+respects_on (Ok a) (Err g) k r h = absurd h.at
+respects_on (Err f) (Ok b) k r h = absurd h.at
 
 pub bind_known : {A B : Type 0} (m : Owned A) (k l : A → Owned B) → ((a : A) → m ≡ Ok a → k a ≡ l a) → (m >>= k) ≡ (m >>= l)
 bind_known (Ok a) k l h = h a refl
@@ -218,10 +219,10 @@ module _ (F : Frame) (types : ℕ → NameTypes) where
   row_respects rb k fair rk u v h = go (rb u.next) (rb v.next) (fair u.next v.next h.next)
     where
       go : (m n : Owned Holds) → Both HoldsAlike m n → (m >>= λ w. k (after u w)) ≡ (n >>= λ w. k (after v w))
-      go (Ok a) (Ok b) i = rk (after u a) (after v b) (after_alike u v a b h i)
-      go (Err f) (Err g) i = ap (λ z. Err z) i
-      go (Ok a) (Err g) i = absurd i
-      go (Err f) (Ok b) i = absurd i
+      go (Ok a) (Ok b) i = rk (after u a) (after v b) (after_alike u v a b h i.at)
+      go (Err f) (Err g) i = ap (λ z. Err z) i.at
+      go (Ok a) (Err g) i = absurd i.at
+      go (Err f) (Ok b) i = absurd i.at
 
   row_goes : (ra : Rule) (rb : Option Held → Owned Holds) (h : Held) (k : Holds → Owned (Unit {0})) → (ra h >>= λ u. rb u.next >>= λ v. k (after u v)) ≡ (in_row ra rb h >>= k)
   row_goes ra rb h k = sym (bind_assoc (ra h) _ k ∙ bind_same (ra h) _ _ (λ u. bind_assoc (rb (Holds.next u)) _ k))
@@ -249,10 +250,11 @@ module _ (F : Frame) (types : ℕ → NameTypes) where
       record {
         grows = omega arith;
         leads = λ x r h os table k rk rd go.
-            let far = rd.far in
-            let near = rd.near in
+            let far : b.last (a.last n) < x.breaks = rd.far in
+            let near : x.continues ≤ n = rd.near in
+            let up : (t : ℕ) → t ≤ a.last n → t ≤ b.last (a.last n) = λ t j. omega arith in
             la.leads x (b.laid (a.last n) x r) h os table (λ u. rb u.next >>= λ v. k (after u v)) (row_respects rb k fair rk)
-            (record { fresh = λ t i j. rd.fresh t i (omega arith); beyond = beyond_less (a.last n) (b.last (a.last n)) os le2 rd.beyond; far = omega arith; near = near })
+            (record { fresh = λ t i j. rd.fresh t i (up t j); beyond = beyond_less (a.last n) (b.last (a.last n)) os le2 rd.beyond; far = omega arith; near = near })
             (λ u t1 rel. more x r os table k rk rd go l2 u t1 rel u.next refl (rel.ends ∙ e))
             ∙ row_goes ra rb h k;
       }
@@ -269,8 +271,8 @@ module _ (F : Frame) (types : ℕ → NameTypes) where
       more x r os table k rk rd go l2 u t1 rel (Some g) i f =
           let le = la.grows in
           let le2 = l2.grows in
-          let far = rd.far in
-          let near = rd.near in
+          let far : b.last (a.last n) < x.breaks = rd.far in
+          let near : x.continues ≤ n = rd.near in
           ap (λ o. resume F types (a.last n) (b.laid (a.last n) x r) o vs os t1) i
           ∙ l2.leads x r g os t1 (λ v. k (after u v)) (λ v w j. rk (after u v) (after u w) (after_alike u u v w (record { next = if_self u.next; breaks = each_self u.breaks; continues = each_self u.continues }) j))
           (record {

@@ -3,7 +3,8 @@ use Rattle.std.proofs.Common.{◌≡◌, ℕ, ◌+◌, ◌<◌, ◌≤◌, ◌==
 use Rattle.gp_base.specs.declared.name.LineNo.{LineNo}
 use Rattle.gp_typing.specs.Typed.{TypedExpression}
 use Rattle.gp_flow.specs.Blocks as flow
-use Rattle.gp_flow.specs.Blocks.{Exits, exits, FlowBlock, Onward, onward, begin, begin_if, next_if, jump, plain, after_if, Part, an_if, an_if_alone}
+use Rattle.gp_flow.specs.declared.builder.Exits.{Exits}
+use Rattle.gp_flow.specs.Blocks.{exits, FlowBlock, Onward, onward, begin, begin_if, next_if, jump, plain, after_if, Part, an_if, an_if_alone}
 use Rattle.gp_flow.proofs.Places.{eq_self, eq_later, eq_earlier}
 use Rattle.gp_own.specs.declared.fault.OwnFault.TheVariants.{OnePathOnly}
 use Rattle.gp_own.specs.Checks.{Owned, ◌>>=◌, check}
@@ -93,27 +94,12 @@ module _ (F : Frame) (types : ℕ → NameTypes) where
       → Led F types n us (an_if line test a b) (if_rule line us test ra rb) ws
   led_if n line test us vs bs ws a b ra rb ta tb tw la lb = record { grows = up0; leads = lead }
     where
-      both : Bool
-      both = a.ends || b.ends
-
-      xn : ℕ
-      xn = n + 1
-
-      yn : ℕ
-      yn = a.last xn + 1
-
-      jn : ℕ
-      jn = b.last yn
-
-      an : ℕ
-      an = jn + 1
-
-      up0 : n ≤ next_if both jn
-      up0 = let le = la.grows in let le2 = lb.grows in let up = next_up both jn in omega arith
+      up0 : n ≤ next_if (a.ends || b.ends) (b.last (a.last (n + 1) + 1))
+      up0 = let le = la.grows in let le2 = lb.grows in let up = next_up (a.ends || b.ends) (b.last (a.last (n + 1) + 1)) in omega arith
 
       lead : (x : Exits) (r : Onward) (h : Held) (os : List Open) (table : Table) (k : Holds → Owned (Unit {0}))
           → Respects k → Ready n (an_if line test a b) x os table
-          → ((hs : Holds) (t' : Table) → Rel n (next_if both jn) (an_if line test a b) x table t' hs → resume F types (next_if both jn) r hs.next ws os t' ≡ k hs)
+          → ((hs : Holds) (t' : Table) → Rel n (next_if (a.ends || b.ends) (b.last (a.last (n + 1) + 1))) (an_if line test a b) x table t' hs → resume F types (next_if (a.ends || b.ends) (b.last (a.last (n + 1) + 1))) r hs.next ws os t' ≡ k hs)
           → mid F types n ((an_if line test a b).laid n x r) (here F types h us) os table ≡ (if_rule line us test ra rb h >>= k)
       lead x r h os table k rk rd go =
           bind_assoc (owned_expression F us line h test) _ _ ∙ bind_same (owned_expression F us line h test) _ _ each ∙ sym (bind_assoc (owned_expression F us line h test) _ k)
@@ -122,6 +108,11 @@ module _ (F : Frame) (types : ℕ → NameTypes) where
               → rest F types (n + 1) ((an_if line test a b).laid n x r).more os (put_in (put_in table (n + 1) g) (a.last (n + 1) + 1) g)
               ≡ ((ra g >>= λ u. rb g >>= λ v. one_of line u v) >>= k)
           each g =
+              let both : Bool = a.ends || b.ends in
+              let xn : ℕ = n + 1 in
+              let yn : ℕ = a.last xn + 1 in
+              let jn : ℕ = b.last yn in
+              let an : ℕ = jn + 1 in
               let le = la.grows in
               let le2 = lb.grows in
               let far : next_if both jn < x.breaks = rd.far in
@@ -191,15 +182,6 @@ module _ (F : Frame) (types : ℕ → NameTypes) where
       → Led F types n us (an_if_alone line test a) (alone_rule line us test ra) ws
   led_alone n line test us vs ws a ra ta tw la = record { grows = up0; leads = lead }
     where
-      xn : ℕ
-      xn = n + 1
-
-      jn : ℕ
-      jn = a.last xn
-
-      an : ℕ
-      an = jn + 1
-
       up0 : n ≤ a.last (n + 1) + 1
       up0 = let le = la.grows in omega arith
 
@@ -214,6 +196,9 @@ module _ (F : Frame) (types : ℕ → NameTypes) where
               → rest F types (n + 1) ((an_if_alone line test a).laid n x r).more os (put_in (put_in table (n + 1) g) (a.last (n + 1) + 1) g)
               ≡ ((ra g >>= λ u. one_of line u (goes_on (Some g))) >>= k)
           each g =
+              let xn : ℕ = n + 1 in
+              let jn : ℕ = a.last xn in
+              let an : ℕ = jn + 1 in
               let le = la.grows in
               let far : an < x.breaks = rd.far in
               let near = rd.near in

@@ -3,7 +3,8 @@ use Rattle.std.proofs.Common.{◌≡◌, ℕ, ◌+◌, ◌<◌, ◌≤◌, ◌==
 use Rattle.gp_base.specs.declared.name.LineNo.{LineNo}
 use Rattle.gp_typing.specs.Typed.{TypedExpression}
 use Rattle.gp_flow.specs.Blocks as flow
-use Rattle.gp_flow.specs.Blocks.{Exits, exits, FlowBlock, Onward, onward, begin, begin_if, next_if, jump, branch, count, plain, head, after_loop, Part, a_while, a_for, an_endless}
+use Rattle.gp_flow.specs.declared.builder.Exits.{Exits}
+use Rattle.gp_flow.specs.Blocks.{exits, FlowBlock, Onward, onward, begin, begin_if, next_if, jump, branch, count, plain, head, after_loop, Part, a_while, a_for, an_endless}
 use Rattle.gp_flow.proofs.Places.{eq_self, eq_later, eq_earlier}
 use Rattle.gp_own.specs.declared.fault.OwnFault.TheVariants.{OnePathOnly, LoopChangesHeld, Overwritten}
 use Rattle.gp_own.specs.Checks.{Owned, ◌>>=◌, check}

@@ -7,7 +7,7 @@ use Rattle.gp_tree.specs.Statement as stmt
 use Rattle.gp_tree.specs.Statement.{Statement, Statements}
 use Rattle.gp_tree.specs.Expression.{Expression}
 use Rattle.gp_tree.specs.TypeExpression.{TypeExpression}
-use Rattle.gp_types.specs.Types as types
+use Rattle.gp_types.specs.Types as plain
 use Rattle.gp_types.specs.Types.{Ty}
 use Rattle.gp_types.specs.Same.{same_type}
 use Rattle.gp_locals.specs.Environment.{Names, Environment, is_within, put, join_reached, usable}
@@ -115,8 +115,8 @@ module _ (F : own.Frame) (types : ℕ → NameTypes) where
 
     made_one : (made : Bool) (o : Option Environment) (cs : List ℕ) (n : ℕ) → n + length (info_if made o cs) ≡ next_if made n
     made_one false o cs n = omega arith
-    made_one true None cs n = refl
-    made_one true (Some e) cs n = refl
+    made_one true None cs n = omega arith
+    made_one true (Some e) cs n = omega arith
 
     pub record IsLed (e : Environment) (t : StatementTyping) : Type 0 where
       pub led : (cs : List ℕ) (n : ℕ) → Stands (n + 1) (kind_noted N cs n e t.kind).infos
@@ -175,85 +175,62 @@ module _ (F : own.Frame) (types : ℕ → NameTypes) where
 
     -- ---- an `if`
 
-    if_led : (e : Environment) (line : LineNo) (test : TypedExpression) (a b : BlockTyping) (q r : Bool) (cs : List ℕ) (n : ℕ) → AreLed (Some e) a → AreLed (Some e) b
-        → (o : Option Environment) → (noted_if ((parts a.trees).ends || (parts b.trees).ends) e cs (each_noted N cs (n + 1) (Some e) a.trees) b.trees (each_noted N cs ((parts a.trees).last (n + 1) + 1) (Some e) b.trees)).ends.next ≡ o
-        → Stands (n + 1) (noted_if ((parts a.trees).ends || (parts b.trees).ends) e cs (each_noted N cs (n + 1) (Some e) a.trees) b.trees (each_noted N cs ((parts a.trees).last (n + 1) + 1) (Some e) b.trees)).infos
-        → Led F types n (types_at N e) (an_if_with line test (parts a.trees) b.trees (parts b.trees))
-        (λ h. owned_expression F (types_at N e) line h test >>= λ g. owned_statements F (Some g) a.trees >>= λ u. owned_statements F (Some g) b.trees >>= λ v. own.one_of line u v) (types_if o)
-    if_led e line test a b q r cs n A B o eo st = go b.trees refl
-      where
-        p : Part
-        p = parts a.trees
+    if_led : (e : Environment) (line : LineNo) (test : TypedExpression) (a : BlockTyping) (b : TypedStatements) (bs : NameTypes) (cs : List ℕ) (n : ℕ) → AreLed (Some e) a
+        → (Stands ((parts a.trees).last (n + 1) + 1 + 1) (each_noted N cs ((parts a.trees).last (n + 1) + 1) (Some e) b).infos
+        → Led F types ((parts a.trees).last (n + 1) + 1) (types_at N e) (parts b) (λ h. owned_statements F (Some h) b) bs)
+        → ((parts a.trees).last (n + 1) + 1) + length (each_noted N cs ((parts a.trees).last (n + 1) + 1) (Some e) b).infos ≡ (parts b).last ((parts a.trees).last (n + 1) + 1)
+        → (o : Option Environment) → (noted_if ((parts a.trees).ends || (parts b).ends) e cs (each_noted N cs (n + 1) (Some e) a.trees) b (each_noted N cs ((parts a.trees).last (n + 1) + 1) (Some e) b)).ends.next ≡ o
+        → Stands (n + 1) (noted_if ((parts a.trees).ends || (parts b).ends) e cs (each_noted N cs (n + 1) (Some e) a.trees) b (each_noted N cs ((parts a.trees).last (n + 1) + 1) (Some e) b)).infos
+        → Led F types n (types_at N e) (an_if_with line test (parts a.trees) b (parts b))
+        (λ h. owned_expression F (types_at N e) line h test >>= λ g. owned_statements F (Some g) a.trees >>= λ u. owned_statements F (Some g) b >>= λ v. own.one_of line u v) (types_if o)
+    if_led e line test a typed.no_statements bs cs n A lb cb o eo st =
+        let u : Noted = each_noted N cs (n + 1) (Some e) a.trees in
+        let m : ℕ = (parts a.trees).last (n + 1) + 1 in
+        let c = A.count cs (n + 1) in
+        let out : Option Environment = (one_of u.ends (goes_on (Some e))).next in
+        led_alone F types n line test (types_at N e) (types_if a.ends.next) (types_if o) (parts a.trees) (λ g. owned_statements F (Some g) a.trees)
+        st.0
+        (stands_if true m out cs (stands_rest (n + 1 + 1) m u.infos (info_if true out cs) (omega arith) st.1) refl ∙ ap types_if eo)
+        (A.led e refl cs (n + 1) (stands_first (n + 1 + 1) u.infos (info_if true out cs) st.1))
+    if_led e line test a (typed.with_statement s ss) bs cs n A lb cb o eo st =
+        let b : TypedStatements = typed.with_statement s ss in
+        let u : Noted = each_noted N cs (n + 1) (Some e) a.trees in
+        let m : ℕ = (parts a.trees).last (n + 1) + 1 in
+        let v : Noted = each_noted N cs m (Some e) b in
+        let c = A.count cs (n + 1) in
+        let made : Bool = (parts a.trees).ends || (parts b).ends in
+        let out : Option Environment = (one_of u.ends v.ends).next in
+        let behind_both : List Info = info_if made out cs in
+        let st3 : Stands m (info e cs ∷ (v.infos ++ behind_both)) = stands_rest (n + 1 + 1) m u.infos (info e cs ∷ (v.infos ++ behind_both)) (omega arith) st.1 in
+        led_if F types n line test (types_at N e) (types_if a.ends.next) bs (types_if o) (parts a.trees) (parts b) (λ g. owned_statements F (Some g) a.trees) (λ g. owned_statements F (Some g) b)
+        st.0 st3.0
+        (λ is. stands_if made ((parts b).last m + 1) out cs (stands_rest (m + 1) ((parts b).last m + 1) v.infos behind_both (omega arith) st3.1) is ∙ ap types_if eo)
+        (A.led e refl cs (n + 1) (stands_first (n + 1 + 1) u.infos (info e cs ∷ (v.infos ++ behind_both)) st.1))
+        (lb (stands_first (m + 1) v.infos behind_both st3.1))
 
-        u : Noted
-        u = each_noted N cs (n + 1) (Some e) a.trees
-
-        m : ℕ
-        m = p.last (n + 1) + 1
-
-        at_m : (n + 1 + 1) + length u.infos ≡ m
-        at_m = let c = A.count cs (n + 1) in omega arith
-
-        rule : TypedStatements → Rule
-        rule trees h = owned_expression F (types_at N e) line h test >>= λ g. owned_statements F (Some g) a.trees >>= λ u. owned_statements F (Some g) trees >>= λ v. own.one_of line u v
-
-        go : (trees : TypedStatements) → b.trees ≡ trees → Led F types n (types_at N e) (an_if_with line test p trees (parts trees)) (rule trees) (types_if o)
-        go typed.no_statements eq =
-            let v : Noted = each_noted N cs m (Some e) typed.no_statements in
-            let st2 : Stands (n + 1) (noted_if (p.ends || true) e cs u typed.no_statements v).infos = subst (λ z. Stands (n + 1) (noted_if (p.ends || (parts z).ends) e cs u z (each_noted N cs m (Some e) z)).infos) eq st in
-            let eo2 : (one_of u.ends (goes_on (Some e))).next ≡ o = subst (λ z. (noted_if (p.ends || (parts z).ends) e cs u z (each_noted N cs m (Some e) z)).ends.next ≡ o) eq eo in
-            led_alone F types n line test (types_at N e) (types_if a.ends.next) (types_if o) p (λ g. owned_statements F (Some g) a.trees)
-            st2.0
-            (stands_if true m (one_of u.ends (goes_on (Some e))).next cs (stands_rest (n + 1 + 1) m u.infos (info_if true (one_of u.ends (goes_on (Some e))).next cs) at_m st2.1) refl ∙ ap types_if eo2)
-            (A.led e refl cs (n + 1) (stands_first (n + 1 + 1) u.infos (info_if true (one_of u.ends (goes_on (Some e))).next cs) st2.1))
-        go (typed.with_statement s ss) eq =
-            let trees : TypedStatements = typed.with_statement s ss in
-            let v : Noted = each_noted N cs m (Some e) trees in
-            let both : Bool = p.ends || (parts trees).ends in
-            let after_ : List Info = info_if both (one_of u.ends v.ends).next cs in
-            let st2 : Stands (n + 1) (noted_if both e cs u trees v).infos = subst (λ z. Stands (n + 1) (noted_if (p.ends || (parts z).ends) e cs u z (each_noted N cs m (Some e) z)).infos) eq st in
-            let eo2 : (one_of u.ends v.ends).next ≡ o = subst (λ z. (noted_if (p.ends || (parts z).ends) e cs u z (each_noted N cs m (Some e) z)).ends.next ≡ o) eq eo in
-            let st3 = stands_rest (n + 1 + 1) m u.infos (info e cs ∷ (v.infos ++ after_)) at_m st2.1 in
-            let cb : m + length v.infos ≡ (parts trees).last m = subst (λ z. m + length (each_noted N cs m (Some e) z).infos ≡ (parts z).last m) eq (B.count cs m) in
-            led_if F types n line test (types_at N e) (types_if a.ends.next) (types_if b.ends.next) (types_if o) p (parts trees) (λ g. owned_statements F (Some g) a.trees) (λ g. owned_statements F (Some g) trees)
-            st2.0 st3.0
-            (λ made. stands_if both ((parts trees).last m + 1) (one_of u.ends v.ends).next cs (stands_rest (m + 1) ((parts trees).last m + 1) v.infos after_ (omega arith) st3.1) made ∙ ap types_if eo2)
-            (A.led e refl cs (n + 1) (stands_first (n + 1 + 1) u.infos (info e cs ∷ (v.infos ++ after_)) st2.1))
-            (subst (λ z. Stands (m + 1) (each_noted N cs m (Some e) z).infos → Led F types m (types_at N e) (parts z) (λ h. owned_statements F (Some h) z) (types_if b.ends.next)) eq (B.led e refl cs m)
-            (stands_first (m + 1) v.infos after_ st3.1))
-
-    if_count : (e : Environment) (line : LineNo) (test : TypedExpression) (a b : BlockTyping) (cs : List ℕ) (n : ℕ) → AreLed (Some e) a → AreLed (Some e) b
-        → n + length (noted_if ((parts a.trees).ends || (parts b.trees).ends) e cs (each_noted N cs (n + 1) (Some e) a.trees) b.trees (each_noted N cs ((parts a.trees).last (n + 1) + 1) (Some e) b.trees)).infos
-        ≡ (an_if_with line test (parts a.trees) b.trees (parts b.trees)).last n
-    if_count e line test a b cs n A B = go b.trees refl
-      where
-        p : Part
-        p = parts a.trees
-
-        u : Noted
-        u = each_noted N cs (n + 1) (Some e) a.trees
-
-        m : ℕ
-        m = p.last (n + 1) + 1
-
-        go : (trees : TypedStatements) → b.trees ≡ trees → n + length (noted_if (p.ends || (parts trees).ends) e cs u trees (each_noted N cs m (Some e) trees)).infos ≡ (an_if_with line test p trees (parts trees)).last n
-        go typed.no_statements eq =
-            let o = (one_of u.ends (goes_on (Some e))).next in
-            let c = A.count cs (n + 1) in
-            let k = length-append u.infos (info_if true o cs) in
-            let d = made_one true o cs 0 in
-            omega arith
-        go (typed.with_statement s ss) eq =
-            let trees : TypedStatements = typed.with_statement s ss in
-            let v : Noted = each_noted N cs m (Some e) trees in
-            let made : Bool = p.ends || (parts trees).ends in
-            let o = (one_of u.ends v.ends).next in
-            let c = A.count cs (n + 1) in
-            let cb : m + length v.infos ≡ (parts trees).last m = subst (λ z. m + length (each_noted N cs m (Some e) z).infos ≡ (parts z).last m) eq (B.count cs m) in
-            let k = length-append v.infos (info_if made o cs) in
-            let l = length-append u.infos (info e cs ∷ (v.infos ++ info_if made o cs)) in
-            let d = made_one made o cs ((parts trees).last m) in
-            omega arith
+    if_count : (e : Environment) (line : LineNo) (test : TypedExpression) (a : BlockTyping) (b : TypedStatements) (cs : List ℕ) (n : ℕ) → AreLed (Some e) a
+        → ((parts a.trees).last (n + 1) + 1) + length (each_noted N cs ((parts a.trees).last (n + 1) + 1) (Some e) b).infos ≡ (parts b).last ((parts a.trees).last (n + 1) + 1)
+        → n + length (noted_if ((parts a.trees).ends || (parts b).ends) e cs (each_noted N cs (n + 1) (Some e) a.trees) b (each_noted N cs ((parts a.trees).last (n + 1) + 1) (Some e) b)).infos
+        ≡ (an_if_with line test (parts a.trees) b (parts b)).last n
+    if_count e line test a typed.no_statements cs n A cb =
+        let u : Noted = each_noted N cs (n + 1) (Some e) a.trees in
+        let out : Option Environment = (one_of u.ends (goes_on (Some e))).next in
+        let c = A.count cs (n + 1) in
+        let k = length-append u.infos (info_if true out cs) in
+        let d = made_one true out cs 0 in
+        omega arith
+    if_count e line test a (typed.with_statement s ss) cs n A cb =
+        let b : TypedStatements = typed.with_statement s ss in
+        let u : Noted = each_noted N cs (n + 1) (Some e) a.trees in
+        let m : ℕ = (parts a.trees).last (n + 1) + 1 in
+        let v : Noted = each_noted N cs m (Some e) b in
+        let made : Bool = (parts a.trees).ends || (parts b).ends in
+        let out : Option Environment = (one_of u.ends v.ends).next in
+        let c = A.count cs (n + 1) in
+        let k = length-append v.infos (info_if made out cs) in
+        let l = length-append u.infos (info e cs ∷ (v.infos ++ info_if made out cs)) in
+        let d = made_one made out cs ((parts b).last m) in
+        omega arith
 
     -- the end of an `if` is the same for the notes
     if_ends_are : (made : Bool) (e : Environment) (cs : List ℕ) (m : ℕ) (trees : TypedStatements) (u : Noted)
@@ -348,14 +325,14 @@ module _ (F : own.Frame) (types : ℕ → NameTypes) where
             (λ a A. gives_behind (check (comes_back e a.ends) (LoopChangesType line)) _ (λ _. gives_ok (record { test = t.tree; body = a; same = refl; led = A })))))
 
     for_led : (e : Environment) (line : LineNo) (name : List ℕ) (test : TypedExpression) (a : BlockTyping) (cs : List ℕ) (n : ℕ)
-        → AreNoted known frame (Some (put N e name types.Int)) a → AreLed (Some (put N e name types.Int)) a
-        → Stands (n + 1) (noted_loop e (put N e name types.Int) (cs ++ (n + 1) ∷ []) cs (each_noted N (cs ++ (n + 1) ∷ []) (n + 1 + 1) (Some (put N e name types.Int)) a.trees)).infos
+        → AreNoted known frame (Some (put N e name plain.Int)) a → AreLed (Some (put N e name plain.Int)) a
+        → Stands (n + 1) (noted_loop e (put N e name plain.Int) (cs ++ (n + 1) ∷ []) cs (each_noted N (cs ++ (n + 1) ∷ []) (n + 1 + 1) (Some (put N e name plain.Int)) a.trees)).infos
         → Led F types n (types_at N e) (flow.a_for line name test (parts a.trees))
         (λ h. owned_expression F (types_at N e) line h test >>= λ g. own_checks.check (is_free name [] g) (Overwritten line) >>= λ _. owned_statements F (Some g) a.trees >>= λ x. own.comes_back line g x >>= λ _. left_by_exit line g (Holds.breaks x))
         (types_if (join_reached (Some e) a.ends.breaks))
     for_led e line name test a cs n X A st =
         let inner : List ℕ = cs ++ (n + 1) ∷ [] in
-        let f : Environment = put N e name types.Int in
+        let f : Environment = put N e name plain.Int in
         let u : Noted = each_noted N inner (n + 1 + 1) (Some f) a.trees in
         let out = join_reached (Some e) u.ends.breaks in
         let m : ℕ = (parts a.trees).last (n + 1 + 1) + 1 in
@@ -365,11 +342,11 @@ module _ (F : own.Frame) (types : ℕ → NameTypes) where
         (stands_if true m out cs (stands_rest (n + 1 + 1 + 1) m u.infos (info_if true out cs) (omega arith) st.1.1) refl ∙ ap (λ (z : Ends). types_if (join_reached (Some e) z.breaks)) (X.ends inner (n + 1 + 1)))
         (A.led f refl inner (n + 1 + 1) (stands_first (n + 1 + 1 + 1) u.infos (info_if true out cs) st.1.1))
 
-    for_count : (e : Environment) (line : LineNo) (name : List ℕ) (test : TypedExpression) (a : BlockTyping) (cs : List ℕ) (n : ℕ) → AreLed (Some (put N e name types.Int)) a
-        → n + length (noted_loop e (put N e name types.Int) (cs ++ (n + 1) ∷ []) cs (each_noted N (cs ++ (n + 1) ∷ []) (n + 1 + 1) (Some (put N e name types.Int)) a.trees)).infos ≡ (flow.a_for line name test (parts a.trees)).last n
+    for_count : (e : Environment) (line : LineNo) (name : List ℕ) (test : TypedExpression) (a : BlockTyping) (cs : List ℕ) (n : ℕ) → AreLed (Some (put N e name plain.Int)) a
+        → n + length (noted_loop e (put N e name plain.Int) (cs ++ (n + 1) ∷ []) cs (each_noted N (cs ++ (n + 1) ∷ []) (n + 1 + 1) (Some (put N e name plain.Int)) a.trees)).infos ≡ (flow.a_for line name test (parts a.trees)).last n
     for_count e line name test a cs n A =
         let inner : List ℕ = cs ++ (n + 1) ∷ [] in
-        let u : Noted = each_noted N inner (n + 1 + 1) (Some (put N e name types.Int)) a.trees in
+        let u : Noted = each_noted N inner (n + 1 + 1) (Some (put N e name plain.Int)) a.trees in
         let out = join_reached (Some e) u.ends.breaks in
         let c = A.count inner (n + 1 + 1) in
         let k = length-append u.infos (info_if true out cs) in
@@ -462,16 +439,16 @@ module _ (F : own.Frame) (types : ℕ → NameTypes) where
           (λ _. gives_bind (block_typing known frame (Some e) body) _ (led_and _ (statements_noted known frame (Some e) body) (statements_led (Some e) body z (among_left N (names_of_block body) (names_of_block other) among)))
           (λ a A. gives_bind (block_typing known frame (Some e) other) _ (led_and _ (statements_noted known frame (Some e) other) (statements_led (Some e) other z (among_right N (names_of_block body) (names_of_block other) among)))
           (λ b B. gives_ok (record {
-            led = λ cs n s. if_led e line t.tree a b (is_some a.ends.next) (is_some b.ends.next) cs n A.1 B.1 (one_of a.ends b.ends).next
+            led = λ cs n s. if_led e line t.tree a b.trees (types_if b.ends.next) cs n A.1 (λ st. B.1.led e refl cs ((parts a.trees).last (n + 1) + 1) st) (B.1.count cs ((parts a.trees).last (n + 1) + 1)) (one_of a.ends b.ends).next
                 (if_next e cs n a b A.0 B.0) s;
-            count = λ cs n. if_count e line t.tree a b cs n A.1 B.1;
+            count = λ cs n. if_count e line t.tree a b.trees cs n A.1 (B.1.count cs ((parts a.trees).last (n + 1) + 1));
             sized = one_sized N a.ends b.ends A.1.sized B.1.sized;
           })))))
       statement_led e (stmt.while_loop line x body) z among = while_given e line x body z (statement_noted known frame e (stmt.while_loop line x body)) (statements_led (Some e) body z among)
       statement_led e (stmt.for_loop line name x body) z among =
           gives_behind (valued line (typing known N e line x)) _
           (λ t. gives_behind (check (ex.is_int t.ty) (Mismatch line)) _ (λ _. gives_behind (check (not (frame.is_borrowed name)) (BorrowedAssigned line)) _
-          (λ _. gives_bind (block_typing known frame (Some (put N e name types.Int)) body) _ (led_and _ (statements_noted known frame (Some (put N e name types.Int)) body) (statements_led (Some (put N e name types.Int)) body (put_sized N e name types.Int z) among.1))
+          (λ _. gives_bind (block_typing known frame (Some (put N e name plain.Int)) body) _ (led_and _ (statements_noted known frame (Some (put N e name plain.Int)) body) (statements_led (Some (put N e name plain.Int)) body (put_sized N e name plain.Int z) among.1))
           (λ a A. gives_behind (check (comes_back e a.ends) (LoopChangesType line)) _
           (λ _. gives_ok (record {
             led = λ cs n s. for_led e line name t.tree a cs n A.0 A.1 s;

@@ -140,7 +140,7 @@ types_put_at (n ∷ N) [] x ty h a y = absurd (short h)
   where
     short : 0 ≡ suc (length N) → ⊥
     short e = cc
-types_put_at (n ∷ N) (t ∷ e) x ty h a y = go (bytes_eq x n) refl
+types_put_at (n ∷ N) (t ∷ e) x ty h a y = go (λ l b. types_put_at N e x ty l b y) (bytes_eq x n) refl
   where
     it : NameTypes
     it = types_at N e
@@ -166,15 +166,16 @@ types_put_at (n ∷ N) (t ∷ e) x ty h a y = go (bytes_eq x n) refl
     kept false true f = refl
     kept false false f = refl
 
-    go : (b : Bool) → bytes_eq x n ≡ b → types_at (n ∷ N) (put (n ∷ N) (t ∷ e) x ty) y ≡ (if bytes_eq x y then Some ty else types_in (with_usable n t (usable N e)) y)
-    go true f =
+    go : (IsSized N e → IsAmong N x → types_at N (put N e x ty) y ≡ with_type (types_at N e) x ty y)
+        → (b : Bool) → bytes_eq x n ≡ b → types_at (n ∷ N) (put (n ∷ N) (t ∷ e) x ty) y ≡ (if bytes_eq x y then Some ty else types_in (with_usable n t (usable N e)) y)
+    go ih true f =
         ap (λ z. types_at (n ∷ N) z y) (put_first x n N e t ty f)
         ∙ found (bytes_eq n y) (bytes_eq x y) (ap (λ z. bytes_eq z y) (sym (name_same x n f)))
         ∙ ap (λ z. if bytes_eq x y then Some ty else z) (sym (first_type n t (usable N e) y))
-    go false f =
+    go ih false f =
         ap (λ z. types_at (n ∷ N) z y) (put_later x n N e t ty f)
         ∙ first_type n t (usable N (put N e x ty)) y
-        ∙ ap (λ z. if bytes_eq n y then elim t [ None ↦ z | Some u ↦ Some u ] else z) (types_put_at N e x ty (less (length e) (length N) h) (later_among x n N f a) y)
+        ∙ ap (λ z. if bytes_eq n y then elim t [ None ↦ z | Some u ↦ Some u ] else z) (ih (less (length e) (length N) h) (later_among x n N f a))
         ∙ kept (bytes_eq n y) (bytes_eq x y) (apart x n y f)
         ∙ ap (λ z. if bytes_eq x y then Some ty else z) (sym (first_type n t (usable N e) y))
 

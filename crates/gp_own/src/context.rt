@@ -67,7 +67,7 @@ pub fn params_of<'a>(scope: &'a Scope, name: &str) -> Params<'a>
 
 /// Whether the parameter at place `i` is borrowed. Takes no memory.
 pub fn borrows(params: Params<'_>, i: usize) -> bool
-    ensures { result ≡ is_first_borrowed (drop i (modes_in params)) }
+    ensures { result ≡ is_first_borrowed (drop i (modes_in params.entry)) }
 {
     match params {
         Params::Written(params) => borrows_written(params, i),

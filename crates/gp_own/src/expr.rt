@@ -74,7 +74,7 @@ fn own_arguments(
     held: HeldLeaves,
     exprs: &[TypedExpr],
 ) -> Result<Lent, OwnFault>
-    ensures { Answers lent_view result (arguments_in context.now (modes_in params) (held_view held.items) (expressions_view exprs.now)) }
+    ensures { Answers lent_view result (arguments_in context.now (modes_in params.entry) (held_view held.items) (expressions_view exprs.now)) }
 {
     let mut so_far = Lent {
         held,

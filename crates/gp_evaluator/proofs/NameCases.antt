@@ -1,5 +1,6 @@
 -- What names mean where a function runs, by whether they are names of the function.
-use Rattle.std.proofs.Common.{◌≡◌, ◌≢◌, ℕ, List, [], ◌∷◌, Option, Some, None, refl, ap, sym, ◌∙◌}
+use Rattle.std.proofs.lemmas.Bool.Decides.{Decides-eqb}
+use Rattle.std.proofs.Common.{◌≡◌, ℕ, true, false, true≢false, arith, ◌==◌, length, List, [], ◌∷◌, Option, Some, None, refl, ap, sym, ◌∙◌}
 use Rattle.std.specs.Prelude.{option_and_then, option_map}
 use Rattle.gp_locals.specs.Callee.{outside}
 use Rattle.gp_locals.specs.Environment.{Names, place_among}
@@ -23,18 +24,17 @@ outside_value known names vs p e = ap (λ o. at_path (named_at vs o (function_va
 pub ruleset reads = (own_value, outside_value)
 
 -- a function of the program, which has no fields
-pub none_outside : (known : Known) (name : List ℕ) (fields : List (List ℕ)) → known.signature_of name ≡ None → at_path (function_value known name) fields ≡ None
-none_outside known name fields e = ap (λ o. at_path (option_map (λ s. function name) o) fields) e ∙ path_none fields
+no_parts : (o : Option Signature) (name f : List ℕ) (fs : List (List ℕ)) → at_path (option_map (λ s. function name) o) (f ∷ fs) ≡ None
+no_parts None name f fs = refl
+no_parts (Some s) name f fs = path_none fs
 
-pub no_part : (known : Known) (name : List ℕ) (fields : List (List ℕ)) (s : Signature) → known.signature_of name ≡ Some s → fields ≢ [] → at_path (function_value known name) fields ≡ None
-no_part known name [] s e h = absurd (h refl)
-no_part known name (f ∷ fs) s e h = ap (λ o. at_path (option_map (λ s. function name) o) (f ∷ fs)) e ∙ path_none fs
+pub no_part : (known : Known) (name : List ℕ) (fields : List (List ℕ)) → (length fields == 0) ≡ false → at_path (function_value known name) fields ≡ None
+no_part known name [] h = absurd (true≢false (sym ((Decides-eqb 0 0).1 refl) ∙ h))
+no_part known name (f ∷ fs) h = no_parts (known.signature_of name) name f fs
 
-pub alone_outside : (known : Known) (name : List ℕ) (fields : List (List ℕ)) (s : Signature) → known.signature_of name ≡ Some s → fields ≡ [] → at_path (function_value known name) fields ≡ Some (function name)
-alone_outside known name fields s e h =
-    ap (λ o. at_path (option_map (λ s. function name) o) fields) e ∙ ap (at_path (Some (function name))) h
-
-pub ruleset values_outside = (none_outside, no_part, alone_outside)
+pub alone : (known : Known) (name : List ℕ) (fields : List (List ℕ)) → (length fields == 0) ≡ true → at_path (function_value known name) fields ≡ function_value known name
+alone known name [] h = refl
+alone known name (f ∷ fs) h = let e = (Decides-eqb (length (f ∷ fs)) 0).0 h in absurd (omega arith)
 
 pub own_callee : (known : Known) (names : Names) (vs : Variables) (name : List ℕ) (i : ℕ) → place_among names name ≡ Some i
     → resolved known names vs name ≡ option_and_then (resolved_value known) (variable names vs name)

@@ -47,18 +47,17 @@ pub fn read_place(
 }
 
 // A function of the program is the value of its name.
-#[tactic(auto, using(crate::proofs::NameCases::values_outside))]
 fn read_outside(scope: &Scope, place: &Place) -> Result<Value, Halt>
     ensures { Found value_view result
         (at_path (function_value (known_in scope.now) place.now.name) place.now.fields) }
 {
-    let Some(_signature) = scope.signature(place.name.as_str()) else {
-        return Err(Halt::Stuck);
-    };
     if !place.fields.as_slice().is_empty() {
         return Err(Halt::Stuck);
     }
-    Ok(Value::Function(place.name.copy()?))
+    match scope.signature(place.name.as_str()) {
+        Some(_) => Ok(Value::Function(place.name.copy()?)),
+        None => Err(Halt::Stuck),
+    }
 }
 
 /// What a call of a name calls. A name of the function that runs is called by its value, and hides what it means outside.

@@ -1,6 +1,6 @@
 //! What names mean where a function runs.
 
-ghost use Rattle.std.specs.Prelude.{◌≡◌, option_and_then, option_map};
+ghost use Rattle.std.specs.Prelude.{◌≡◌};
 ghost use Rattle.gp_scope.specs.ScopeView.{known_in};
 ghost use Rattle.gp_evaluator.specs.Evaluation.{read_in, resolved_in, resolved_view};
 ghost use Rattle.gp_evaluator.specs.View.{value_view, Found};
@@ -47,15 +47,17 @@ pub fn read_place(
 }
 
 // A function of the program is the value of its name.
-#[tactic(auto, using(crate::proofs::NameCases::no_part))]
 fn read_outside(scope: &Scope, place: &Place) -> Result<Value, Halt>
     ensures { Found value_view result
         (at_path (function_value (known_in scope.now) place.now.name) place.now.fields) }
 {
-    if scope.signature(place.name.as_str()).is_none() || !place.fields.as_slice().is_empty() {
+    if !place.fields.as_slice().is_empty() {
         return Err(Halt::Stuck);
     }
-    Ok(Value::Function(place.name.copy()?))
+    match scope.signature(place.name.as_str()) {
+        Some(_) => Ok(Value::Function(place.name.copy()?)),
+        None => Err(Halt::Stuck),
+    }
 }
 
 /// What a call of a name calls. A name of the function that runs is called by its value, and hides what it means outside.
@@ -69,7 +71,10 @@ pub fn resolve<'a>(
     ensures { Found resolved_view result (resolved_in frame.now variables.now name.now) }
 {
     if frame.names.position(name.as_str()).is_some() {
-        return resolve_value(frame.scope, variables.get(frame.names, name.as_str()));
+        return match variables.get(frame.names, name.as_str()) {
+            Some(value) => resolve_value(frame.scope, value),
+            None => Err(Halt::Stuck),
+        };
     }
     match find_callee(frame.scope, name.as_str()) {
         Some(callee) => Ok(Resolved {
@@ -81,11 +86,10 @@ pub fn resolve<'a>(
 }
 
 // The function of the program that a value is the name of.
-fn resolve_value<'a>(scope: &'a Scope, value: Option<&Value>) -> Result<Resolved<'a>, Halt>
-    ensures { Found resolved_view result
-        (option_and_then (resolved_value (known_in scope.now)) (option_map (λ v. value_view v.now) value)) }
+fn resolve_value<'a>(scope: &'a Scope, value: &Value) -> Result<Resolved<'a>, Halt>
+    ensures { Found resolved_view result (resolved_value (known_in scope.now) (value_view value.now)) }
 {
-    let Some(Value::Function(name)) = value else {
+    let Value::Function(name) = value else {
         return Err(Halt::Stuck);
     };
     match scope.signature(name.as_str()) {

@@ -1,5 +1,5 @@
 use Rattle.std.proofs.Common.{drop, sym, ◌∙◌}
-use Rattle.gp_flow.proofs.Puts.{types_done}
+use Rattle.gp_flow.proofs.PutLemmas.{types_done}
 use Rattle.gp_flow.proofs.puts.put_places.Goals as goal
 
 pub returns-then-i-tys : goal.returns-then-i-tys

@@ -14,4 +14,3 @@ pub mod FunctionSteps
 pub mod Sizes
 pub mod Routines
 pub mod EntryRuns
-pub mod NameCases

@@ -11,7 +11,6 @@ mod evaluator;
 mod frame;
 mod functions;
 mod halt;
-mod names;
 mod operators;
 pub mod value;
 mod variables;

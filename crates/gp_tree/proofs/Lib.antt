@@ -1,1 +1,1 @@
-pub mod FunctionTypes
+pub mod Copied

@@ -1,2 +1,1 @@
-pub mod FunctionTypes
 pub mod Lengths

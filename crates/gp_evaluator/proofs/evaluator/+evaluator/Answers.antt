@@ -1,4 +1,4 @@
-use Rattle.std.proofs.Common.{◌≡◌, ◌∙◌, ◌+◌, refl, ap, sym, map, option_map, arith, pos}
+use Rattle.std.proofs.Common.{◌≡◌, ◌∙◌, ◌+◌, ap, sym, map, option_map, arith, pos}
 use Rattle.gp_base.specs.Run.{Returned, go_on, ◌>>=◌, or_stuck}
 use Rattle.gp_tree.specs.Expression as expr
 use Rattle.gp_tree.specs.Expression.{expression, expressions}
@@ -76,8 +76,8 @@ pub evaluate_expr-returns-in-Call-clause-run : goal.evaluate_expr-returns-in-Cal
 evaluate_expr-returns-in-Call-clause-run t c =
     let s = state_of c.args.variables.now c.args.world.now in
     ends (option_map value_view) c.evaluate_call.result (state_of c.evaluate_call.new.variables c.evaluate_call.new.world) (expression_run c.args.frame.now (expression c.args.expr.now) s)
-    (expression_run c.args.frame.now (expr.call c.in-Call.name (expressions c.deref-in-Call.result.now)) s)
-    (call_goes (frame_view c.args.frame.now) (rest_for c.args.frame.now).call s c.args.expr.now c.in-Call.name c.in-Call.name c.in-Call.arguments c.deref-in-Call.result.now c.in-Call.is refl c.deref-in-Call.ensures.value)
+    (expression_run c.args.frame.now (expr.call c.as_str.result.now (expressions c.deref-in-Call.result.now)) s)
+    (call_goes (frame_view c.args.frame.now) (rest_for c.args.frame.now).call s c.args.expr.now c.in-Call.name c.as_str.result.now c.in-Call.arguments c.deref-in-Call.result.now c.in-Call.is c.as_str.ensures c.deref-in-Call.ensures.value)
     c.evaluate_call.ensures.run
 
 pub evaluate_value-evaluate_expr-requires : goal.evaluate_value-evaluate_expr-requires

@@ -1,7 +1,0 @@
-use Rattle.std.proofs.Common.{drop, sym, ◌∙◌}
-use Rattle.gp_flow.proofs.PutLemmas.{types_done}
-use Rattle.gp_flow.proofs.puts.put_places.Goals as goal
-
-pub returns-then-i-tys : goal.returns-then-i-tys
-returns-then-i-tys c =
-    sym (types_done c.args.names.now c.loop-i.environment (drop c.loop-i.i c.args.places.now) c.args.tys.now c.loop-i.i c.if-i-tys.true) ∙ c.loop-i.invariant

@@ -9,7 +9,8 @@ use Rattle.std.specs.Rc.{rc_slice_items}
 use Rattle.gp_base.specs.Tag.{IsTag, IsPrintable}
 use Rattle.gp_locals.specs.Callee.{Callee, takes_tag}
 use Rattle.gp_locals.specs.Tag.{is_tag, is_tag_character, all_tag_characters}
-use Rattle.gp_types.specs.Types.{Field, fields_of}
+use Rattle.gp_types.specs.Signature.{Parameter, function_params}
+use Rattle.gp_types.specs.Types.{Field, FunParam, fields_of, params_of}
 use Rattle.gp_types.specs.View.{ty_view, field_view}
 use Rattle.gp_types.specs.declared.ty.Ty as declared_ty
 use Rattle.gp_types.specs.declared.ty.Field as declared_field
@@ -38,6 +39,16 @@ struct_count ty name fields is =
     sym (length-map (rc_slice_items fields) field_view) ∙ fields_count (map field_view (rc_slice_items fields)) ∙ ap spec.part_count (sym (ap ty_view is ∙ ty_view-Struct name fields))
 
 pub ruleset call_rows = (struct_count)
+
+pub written_count : {A : Type 0} (view : A → Parameter) (ps : List A) → length ps ≡ spec.param_count (function_params (map view ps))
+written_count view [] = refl
+written_count view (p ∷ ps) = ap suc (written_count view ps)
+
+pub valued_count : {A : Type 0} (view : A → FunParam) (ps : List A) → length ps ≡ spec.param_count (params_of (map view ps))
+valued_count view [] = refl
+valued_count view (p ∷ ps) = ap suc (valued_count view ps)
+
+pub ruleset param_counts = (written_count, valued_count)
 
 -- ---- tags
 

@@ -37,7 +37,7 @@ module _ (F : Frame) (f : Functions) (s : State) (e : Expr) where
   pub text_goes : (t : List ℕ) → e ≡ variants.Text t → evaluated F f (expression e) s ≡ Stopped Stuck s
   text_goes t is = ap (λ z. evaluated F f z s) (as_text e t is)
 
-  pub place_goes : (p : Place) → e ≡ variants.Place p → evaluated F f (expression e) s ≡ looked_up (value_at F.names s.variables p) s
+  pub place_goes : (p : Place) → e ≡ variants.Place p → evaluated F f (expression e) s ≡ looked_up (value_at F.known F.names s.variables p) s
   place_goes p is = ap (λ z. evaluated F f z s) (as_place e p is)
 
   pub minus_goes : (a : Box Expr Global) (x : Expr) → e ≡ variants.Neg a → x ≡ a.value

@@ -14,3 +14,5 @@ pub mod FunctionSteps
 pub mod Sizes
 pub mod Routines
 pub mod EntryRuns
+pub mod NameCases
+pub mod CallSteps

@@ -1,22 +1,26 @@
 -- What the parts of the evaluator answer: runs that go on with all that the program says.
 use Rattle.std.specs.Prelude.{ℕ, ℤ, Bool, true, false, List, Option, Some, None, if◌then◌else◌, option_map}
 use Rattle.gp_base.specs.Run.{Run}
+use Rattle.gp_locals.specs.CalleeView.{callee_view}
 use Rattle.gp_locals.specs.Environment.{Names}
 use Rattle.gp_scope.specs.ScopeView.{known_in}
 use Rattle.gp_scope.specs.declared.scope.Scope.{Scope}
 use Rattle.gp_tree.specs.Expression.{Expression, Expressions}
 use Rattle.gp_tree.specs.Program.{program_items}
 use Rattle.gp_tree.specs.Statement.{Statement, Statements}
+use Rattle.gp_tree.specs.declared.place.Place.{Place}
 use Rattle.gp_tree.specs.declared.program.Item.{Item}
 use Rattle.gp_types.specs.Signature.{Parameter, is_borrowed_mode}
 use Rattle.gp_evaluator.specs.declared.completion.Completion as declared_completion
 use Rattle.gp_evaluator.specs.declared.completion.Completion.TheVariants as completions
 use Rattle.gp_evaluator.specs.declared.frame.Frame as declared_frame
+use Rattle.gp_evaluator.specs.declared.names.Resolved as declared_names
 use Rattle.gp_evaluator.specs.declared.variables.Variables as declared_variables
 use Rattle.gp_evaluator.specs.declared.world.World as declared_world
 use Rattle.gp_meaning.specs.Meaning.{Frame, Completion, Normal, Break, Continue, Return, Rest, needed, truth, evaluated, evaluated_each, executed, executed_each, looped, counted, routines_of}
 use Rattle.gp_meaning.specs.Runs.{Source, rest_in}
-use Rattle.gp_meaning.specs.State.{State, Variables, variable}
+use Rattle.gp_meaning.specs.Calls.{Resolved, resolved}
+use Rattle.gp_meaning.specs.State.{State, Variables, value_at, variable}
 use Rattle.gp_meaning.specs.Value.{Value}
 use Rattle.gp_evaluator.specs.View.{value_view, variables_view, world_view, state}
 
@@ -52,6 +56,19 @@ final_of names p vs = if is_borrowed_mode p.mode then option_map (λ v. Some v) 
 abbrev pub tag_count : Option (List ℕ) → ℕ
 tag_count (Some t) = 1
 tag_count None = 0
+
+-- ---- names
+
+-- what a call calls
+abbrev pub resolved_view : declared_names.Resolved → Resolved
+resolved_view r = record { name = r.name; callee = callee_view r.callee }
+
+abbrev pub resolved_in : declared_frame.Frame → declared_variables.Variables → List ℕ → Option Resolved
+resolved_in f vs name = resolved (known_in f.scope.now) f.names.now (variables_view vs) name
+
+-- the value at a place
+abbrev pub read_in : declared_frame.Frame → declared_variables.Variables → Place → Option Value
+read_in f vs place = value_at (known_in f.scope.now) f.names.now (variables_view vs) place
 
 -- ---- runs
 

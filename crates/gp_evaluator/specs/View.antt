@@ -12,7 +12,7 @@ use Rattle.gp_evaluator.specs.declared.value.Value.TheOpen.{Value-F, FieldValue-
 use Rattle.gp_evaluator.specs.declared.variables.Variables as declared_variables
 use Rattle.gp_evaluator.specs.declared.world.World as declared_world
 use Rattle.gp_meaning.specs.Calls.{Called}
-use Rattle.gp_meaning.specs.Value.{Value, FieldValue, number, boolean, qubit, tuple, structure, values_of, fields_of}
+use Rattle.gp_meaning.specs.Value.{Value, FieldValue, number, boolean, qubit, tuple, structure, function, values_of, fields_of}
 use Rattle.gp_meaning.specs.State.{State, Variables}
 
 -- one level, with the values inside already seen
@@ -22,6 +22,7 @@ value_step (Value-F.Bool b) = boolean b
 value_step (Value-F.Qubit q) = qubit q
 value_step (Value-F.Tuple vs) = tuple (values_of vs.items)
 value_step (Value-F.Struct fs) = structure (fields_of fs.items)
+value_step (Value-F.Function name) = function name
 
 abbrev pub field_step : FieldValue-F Value FieldValue → FieldValue
 field_step f = record { name = f.name; value = f.value }

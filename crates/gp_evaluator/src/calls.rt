@@ -22,11 +22,13 @@ use gp_types::{Builtin, Field, Ty};
 use std::alloc::{AllocError, Global};
 
 // How many values a call takes, a tag aside.
+#[tactic(auto, using(crate::proofs::CallRows::param_counts))]
 fn value_count(callee: &Callee<'_>) -> usize
     ensures { result ≡ spec.value_count (callee_view callee.now) }
 {
     match callee {
         Callee::Written(signature) => signature.params.as_slice().len(),
+        Callee::Value(params, _) => params.len(),
         Callee::Made(ty) => part_count(ty),
         Callee::BuiltIn(Builtin::Result) => 1,
         Callee::BuiltIn(function) => function.parameters().len(),

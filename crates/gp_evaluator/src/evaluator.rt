@@ -9,7 +9,6 @@ ghost use Rattle.gp_meaning.specs.Calls.{called};
 ghost use Rattle.gp_evaluator.specs.Evaluation.{completion_view, state_of, rest_of, rest_for, expression_run, value_run, truth_run, values_run, statement_run, block_run, while_run, for_run};
 ghost use Rattle.gp_evaluator.specs.Evaluation as spec;
 ghost use Rattle.gp_meaning.specs.Meaning.{looked_up};
-ghost use Rattle.gp_meaning.specs.State.{value_at};
 ghost use Rattle.gp_meaning.specs.Value as values;
 ghost use Rattle.gp_evaluator.specs.View.{value_view, variables_view, world_view, called_view, Found, Ran};
 
@@ -20,14 +19,15 @@ use crate::counter::Counter;
 use crate::frame::{Frame, find_function};
 use crate::functions::{begin, leave};
 use crate::halt::Halt;
+use crate::names::{Resolved, read_place, resolve};
 use crate::operators::{boolean_of, minus, operate};
 use crate::value::{Value, Values};
 use crate::variables::Variables;
 use crate::world::World;
-use gp_base::Tag;
-use gp_locals::{Callee, Locals, find_callee, locals_of};
+use gp_base::{Name, Tag};
+use gp_locals::{Callee, locals_of};
 use gp_scope::Scope;
-use gp_tree::{Expr, Item, Place, Stmt};
+use gp_tree::{Expr, Item, Stmt};
 use std::alloc::Global;
 
 // The value that is needed.
@@ -36,21 +36,6 @@ fn needed(value: Option<Value>) -> Result<Value, Halt>
 {
     match value {
         Some(value) => Ok(value),
-        None => Err(Halt::Stuck),
-    }
-}
-
-// The value that is read at a place.
-fn read_place(
-    alloc: Global,
-    names: &Locals,
-    variables: &Variables,
-    place: &Place,
-) -> Result<Value, Halt>
-    ensures { Found value_view result (value_at names.now (variables_view variables.now) place.now) }
-{
-    match variables.value_at(names, place) {
-        Some(value) => Ok(value.copy(alloc)?),
         None => Err(Halt::Stuck),
     }
 }
@@ -82,7 +67,7 @@ pub fn evaluate_expr(
         Expr::Bool(truth) => Ok(Some(Value::Bool(*truth))),
         Expr::Text(_) => Err(Halt::Stuck),
         Expr::Place(place) => {
-            let value = read_place(alloc, frame.names, variables, place)?;
+            let value = read_place(alloc, frame, variables, place)?;
             Ok(Some(value))
         }
         Expr::Neg(operand) => {
@@ -127,7 +112,7 @@ pub fn evaluate_expr(
             Ok(Some(Value::Tuple(values)))
         }
         Expr::Call(name, arguments) => {
-            evaluate_call(alloc, frame, variables, world, name.as_str(), arguments)
+            evaluate_call(alloc, frame, variables, world, name, arguments)
         }
     }
 }
@@ -192,18 +177,16 @@ fn evaluate_call(
     frame: &Frame<'_>,
     variables: &mut Variables,
     world: &mut World<'_>,
-    name: &str,
+    name: &Name,
     arguments: &[Expr],
 ) -> Result<Option<Value>, Halt>
     ensures run { Ran (option_map value_view) result (state_of variables.new world.new) (expression_run frame.now (expr.call name.now (expressions arguments.now)) (state_of variables.old world.old)) }
     ensures fewer { world.new.turns ≤ world.old.turns }
 {
-    let Some(callee) = find_callee(frame.scope, frame.names, name) else {
-        return Err(Halt::Stuck);
-    };
+    let Resolved { name, callee } = resolve(frame, variables, name)?;
     let tag = tag_of(alloc, &callee, arguments)?;
     let values = evaluate_each(alloc, frame, variables, world, arguments, count_tags(&tag))?;
-    let called = call(alloc, frame, world, &callee, name, tag, values)?;
+    let called = call(alloc, frame, world, &callee, name.as_str(), tag, values)?;
     let Called { answer, finals } = called;
     put_back_each(alloc, frame.names, variables, arguments, &finals)?;
     Ok(answer)
@@ -224,7 +207,7 @@ fn call(
     ensures fewer { world.new.turns ≤ world.old.turns }
 {
     match callee {
-        Callee::Written(_) => {
+        Callee::Written(_) | Callee::Value(_, _) => {
             world.take_turn()?;
             run_function(alloc, frame.items, frame.scope, world, name, &values)
         }

@@ -11,6 +11,7 @@ mod evaluator;
 mod frame;
 mod functions;
 mod halt;
+mod names;
 mod operators;
 pub mod value;
 mod variables;

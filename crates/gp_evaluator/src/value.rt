@@ -21,6 +21,8 @@ pub enum Value {
     Tuple(Values),
     /// The fields of a struct, in the order in which it declares them.
     Struct(FieldValues),
+    /// A function, by its name.
+    Function(Name),
 }
 
 /// Values in a row.
@@ -54,6 +56,7 @@ impl Value {
             Value::Qubit(number) => Ok(Value::Qubit(*number)),
             Value::Tuple(parts) => Ok(Value::Tuple(copy_values(alloc, parts)?)),
             Value::Struct(fields) => Ok(Value::Struct(copy_fields(alloc, fields)?)),
+            Value::Function(name) => Ok(Value::Function(name.copy()?)),
         }
     }
 }

@@ -2,6 +2,7 @@
 
 ghost use Rattle.std.specs.Prelude.{◌≡◌, IfOk, option_map};
 ghost use Rattle.gp_meaning.specs.State as spec;
+ghost use Rattle.gp_meaning.specs.Value.{at_path};
 ghost use Rattle.gp_evaluator.specs.View.{value_view, values_view, variables_view, Found, RanAlone};
 
 use crate::halt::Halt;
@@ -52,9 +53,10 @@ impl Variables {
         }
     }
 
-    /// The value at a place. Takes no memory.
+    /// The value at a place of a name of the function. Takes no memory.
     pub fn value_at(&self, names: &Locals, place: &Place) -> Option<&Value>
-        ensures { option_map (λ value. value_view value.now) result ≡ spec.value_at names.now (variables_view self.now) place.now }
+        ensures { option_map (λ value. value_view value.now) result
+            ≡ at_path (spec.variable names.now (variables_view self.now) place.now.name) place.now.fields }
     {
         part_at(
             self.get(names, place.name.as_str())?,

@@ -12,7 +12,7 @@ use Rattle.gp_tree.specs.declared.place.Place.{Place}
 use Rattle.gp_tree.specs.declared.place.Targets.{Targets}
 use Rattle.gp_tree.specs.declared.place.Targets.TheVariants as to
 use Rattle.gp_tree.specs.Expression.{Expression}
-use Rattle.gp_tree.specs.TypeExpression.{TypeExpression, TypeExpressions, named_type, tuple_type, no_types, with_type, types_of}
+use Rattle.gp_tree.specs.TypeExpression.{TypeExpression, TypeExpressions, ParameterType, ParameterTypes, named_type, tuple_type, function_type, no_types, with_type, no_parameters, with_parameter, types_of, parameters_of, result_of}
 use Rattle.gp_tree.specs.Form.{Parameter, Form, MaybeForm, no_form, some_form}
 use Rattle.gp_tree.specs.Form as f
 use Rattle.gp_form.specs.declared.assigning.Assigning.{Assigning}
@@ -23,10 +23,10 @@ use Rattle.gp_form.specs.Grammar.{Spells, SpellsPlace, SpellsExpressions}
 use Rattle.gp_form.specs.declared.list_end.ListEnd.{ListEnd}
 use Rattle.gp_form.specs.declared.list_end.ListEnd.TheVariants as until
 use Rattle.gp_form.specs.Forms as g
-use Rattle.gp_form.specs.Forms.{Listed, SpellsType, SpellsTypes, parameter_of, SpellsParam, SpellsPlaces, SpellsTargets, augmenting, SpellsSimple, SpellsBody, SpellsResult, IsMaybeComma, SpellsName, SpellsNames, SpellsImported, dotted, SpellsForm, HasOneForm}
-use Rattle.gp_form.specs.code.Steps.{◌>>=◌, if_same, past_symbol, past_word, past_name}
+use Rattle.gp_form.specs.Forms.{Listed, marked, SpellsType, SpellsTypes, SpellsMarkedType, SpellsMarkedTypes, SpellsAnswer, parameter_of, SpellsParam, SpellsPlaces, SpellsTargets, augmenting, SpellsSimple, SpellsBody, SpellsResult, IsMaybeComma, SpellsName, SpellsNames, SpellsImported, dotted, SpellsForm, HasOneForm}
+use Rattle.gp_form.specs.code.Steps.{Read, ◌>>=◌, if_same, past_symbol, past_word, past_name}
 use Rattle.gp_form.specs.code.Reading.{fields_from, path_from, past_join, chain_from, chain, past_end, expressions, named, atom, factor, comparison, inversion, whole, read, place_front, expression_front, all_expressions}
-use Rattle.gp_form.specs.code.FormReading.{past_soft_word, nothing, past_string, listed, some_tuple, past_tuple, type_with, type_at, a_type, owned_mark, param, pattern_inside, pattern_outside, targets, assigning_symbol, assigning, split, assigned, declaration, past_declared, past_request, docstring, module_call, evaluated, unled, returned, statement, only_simple, simple, body, result_type, def_header, class_header, tested, else_header, maybe_comma, past_range, for_header, decorator, names_from, imported, import_names, first_word, led, line}
+use Rattle.gp_form.specs.code.FormReading.{past_soft_word, nothing, past_string, listed, some_tuple, past_tuple, past_callable, owned_mark, tuple_behind, marked_type, answer, function_behind, type_with, type_at, a_type, a_marked_type, an_answer, param, pattern_inside, pattern_outside, targets, assigning_symbol, assigning, split, assigned, declaration, past_declared, past_request, docstring, module_call, evaluated, unled, returned, statement, only_simple, simple, body, result_type, def_header, class_header, tested, else_header, maybe_comma, past_range, for_header, decorator, names_from, imported, import_names, first_word, led, line}
 use Rattle.gp_form.proofs.StepLemmas.{some, some_is}
 use Rattle.gp_form.proofs.FormWords.{this_text}
 use Rattle.gp_form.proofs.ListedItems.{ItemReads, ListReads, nothing_reads, last_reads, going_on_reads, listed_reads, all_reads}
@@ -55,40 +55,10 @@ named_something : (a rest : List Token) → Named a → nothing (a ++ rest) ≡ 
 unfolding past_end
 named_something a rest h = ap (λ (z : List Token). nothing (z ++ rest)) h.parts
 
-record TypeComplete (a : List Token) (x : TypeExpression) : Type 0 where
-  begins : Named a
-  reads : (n : ℕ) (rest : List Token) → length a ≤ n → past_symbol s.LeftBracket rest ≡ None → type_at n (a ++ rest) ≡ Some (x, rest)
+named_longer : (a b : List Token) → Named a → Named (a ++ b)
+named_longer a b h = record { name = h.name; others = h.others ++ b; parts = ap (λ (z : List Token). z ++ b) h.parts }
 
--- what is read of types, and that they are these
-record ReadsTypes (n : ℕ) (rest : List Token) (a : List Token) (xs : TypeExpressions) : Type 0 where
-  trees : List TypeExpression
-  are : types_of trees ≡ xs
-  reads : ListReads (type_at n) (past_symbol s.RightBracket) (t.Symbol s.RightBracket ∷ rest) rest a trees
-
-abbrev TypesComplete : List Token → TypeExpressions → Type 0
-TypesComplete a xs = (n : ℕ) (rest : List Token) → length a ≤ n → ReadsTypes n rest a xs
-
-not_tuple : (n : List ℕ) (rest : List Token) (same : Bool) → past_symbol s.LeftBracket rest ≡ None → (if_same same rest >>= past_symbol s.LeftBracket) ≡ None
-not_tuple n rest true h = h
-not_tuple n rest false h = refl
-
-named_complete : (n : List ℕ) → TypeComplete (t.Name n ∷ []) (named_type n)
-unfolding type_at type_with past_tuple past_soft_word past_name
-named_complete n = record {
-  begins = record { name = n; others = []; parts = refl };
-  reads = λ m rest le ends.
-      let turn : m ≡ suc (m - 1) = omega arith in
-      let here : type_with (type_at (m - 1)) (t.Name n ∷ rest) ≡ Some (named_type n, rest) = rw (not_tuple n rest (bytes_eq n (codes "tuple")) ends) refl in
-      ap (λ (d : ℕ). type_at d (t.Name n ∷ rest)) turn ∙ here;
-}
-
-this_tuple : (rest : List Token) → past_tuple (t.Name (codes "tuple") ∷ t.Symbol s.LeftBracket ∷ rest) ≡ Some rest
-unfolding past_tuple past_symbol
-this_tuple rest = rw (this_text (codes "tuple") (t.Symbol s.LeftBracket ∷ rest)) refl
-
-some_read : (ys : List TypeExpression) (x : TypeExpression) (xs : TypeExpressions) → types_of ys ≡ with_type x xs → some_tuple ys ≡ Some (tuple_type (with_type x xs))
-some_read [] x xs e = absurd cc
-some_read (y ∷ ys) x xs e = ap (λ (z : TypeExpressions). some (tuple_type z)) e
+-- the signs of types
 
 bracket_closes : (rest : List Token) → past_symbol s.RightBracket (t.Symbol s.RightBracket ∷ rest) ≡ Some rest
 unfolding past_symbol
@@ -98,21 +68,6 @@ comma_in_brackets : (b : List Token) → past_symbol s.RightBracket (t.Symbol s.
 unfolding past_symbol
 comma_in_brackets b = refl
 
-tuple_complete : (a : List Token) (x : TypeExpression) (xs : TypeExpressions) → TypesComplete a (with_type x xs) → TypeComplete (t.Name (codes "tuple") ∷ t.Symbol s.LeftBracket ∷ (a ++ t.Symbol s.RightBracket ∷ [])) (tuple_type (with_type x xs))
-unfolding type_at type_with
-tuple_complete a x xs c = record {
-  begins = record { name = codes "tuple"; others = t.Symbol s.LeftBracket ∷ (a ++ t.Symbol s.RightBracket ∷ []); parts = refl };
-  reads = λ m rest le ends.
-      let sized = length-append a (t.Symbol s.RightBracket ∷ []) in
-      let turn : m ≡ suc (m - 1) = omega arith in
-      let inside = c (m - 1) rest (omega (arith, sized)) in
-      let all = all_reads (type_at (m - 1)) (past_symbol s.RightBracket) (t.Symbol s.RightBracket ∷ rest) rest (bracket_closes rest) comma_in_brackets a inside.trees inside.reads in
-      let tokens = t.Name (codes "tuple") ∷ t.Symbol s.LeftBracket ∷ ((a ++ t.Symbol s.RightBracket ∷ []) ++ rest) in
-      let here : type_with (type_at (m - 1)) tokens ≡ Some (tuple_type (with_type x xs), rest) =
-      rw (this_tuple ((a ++ t.Symbol s.RightBracket ∷ []) ++ rest), append_assoc a (t.Symbol s.RightBracket ∷ []) rest, all, some_read inside.trees x xs inside.are) refl in
-      ap (λ (d : ℕ). type_at d tokens) turn ∙ here;
-}
-
 right_is_no_left : (rest : List Token) → past_symbol s.LeftBracket (t.Symbol s.RightBracket ∷ rest) ≡ None
 unfolding past_symbol
 right_is_no_left rest = refl
@@ -121,7 +76,139 @@ comma_is_no_left : (rest : List Token) → past_symbol s.LeftBracket (t.Symbol s
 unfolding past_symbol
 comma_is_no_left rest = refl
 
-type_item : (a : List Token) (x : TypeExpression) (n : ℕ) (rest : List Token) → length a ≤ n → TypeComplete a x → ItemReads (type_at n) (past_symbol s.RightBracket) (t.Symbol s.RightBracket ∷ rest) a x
+at_is_no_left : (rest : List Token) → past_symbol s.LeftBracket (t.Symbol s.At ∷ rest) ≡ None
+unfolding past_symbol
+at_is_no_left rest = refl
+
+right_is_no_mark : (rest : List Token) → past_symbol s.At (t.Symbol s.RightBracket ∷ rest) ≡ None
+unfolding past_symbol
+right_is_no_mark rest = refl
+
+comma_is_no_mark : (rest : List Token) → past_symbol s.At (t.Symbol s.Comma ∷ rest) ≡ None
+unfolding past_symbol
+comma_is_no_mark rest = refl
+
+past_comma : (rest : List Token) → past_symbol s.Comma (t.Symbol s.Comma ∷ rest) ≡ Some rest
+unfolding past_symbol
+past_comma rest = refl
+
+past_none : (rest : List Token) → past_word k.NoneWord (t.Keyword k.NoneWord ∷ rest) ≡ Some rest
+unfolding past_word
+past_none rest = refl
+
+this_tuple : (rest : List Token) → past_tuple (t.Name (codes "tuple") ∷ t.Symbol s.LeftBracket ∷ rest) ≡ Some rest
+unfolding past_tuple past_symbol
+this_tuple rest = rw (this_text (codes "tuple") (t.Symbol s.LeftBracket ∷ rest)) refl
+
+callable_is_no_tuple : (rest : List Token) → past_tuple (t.Name (codes "Callable") ∷ rest) ≡ None
+unfolding past_tuple past_soft_word
+callable_is_no_tuple rest = refl
+
+this_callable : (rest : List Token) → past_callable (t.Name (codes "Callable") ∷ t.Symbol s.LeftBracket ∷ t.Symbol s.LeftBracket ∷ rest) ≡ Some rest
+unfolding past_callable past_symbol
+this_callable rest = rw (this_text (codes "Callable") (t.Symbol s.LeftBracket ∷ t.Symbol s.LeftBracket ∷ rest)) refl
+
+unmarked : (rest : List Token) → past_symbol s.At rest ≡ None → owned_mark rest ≡ Some (false, rest)
+unfolding owned_mark
+unmarked rest h = rw h refl
+
+this_mark : (rest : List Token) → owned_mark (t.Symbol s.At ∷ t.Name (codes "owned") ∷ rest) ≡ Some (true, rest)
+unfolding owned_mark past_symbol
+this_mark rest = rw (this_text (codes "owned") rest) refl
+
+-- items in brackets
+
+module _ {X : Type 0} (item : Read X) (rest : List Token) where
+  abbrev BracketItem : List Token → X → Type 0
+  BracketItem = ItemReads item (past_symbol s.RightBracket) (t.Symbol s.RightBracket ∷ rest)
+
+  abbrev BracketItems : List Token → List X → Type 0
+  BracketItems = ListReads item (past_symbol s.RightBracket) (t.Symbol s.RightBracket ∷ rest) rest
+
+  none_in_brackets : BracketItems [] []
+  none_in_brackets = nothing_reads item (past_symbol s.RightBracket) (t.Symbol s.RightBracket ∷ rest) rest (bracket_closes rest) comma_in_brackets
+
+  last_in_brackets : (a : List Token) (x : X) → BracketItem a x → BracketItems a (x ∷ [])
+  last_in_brackets = last_reads item (past_symbol s.RightBracket) (t.Symbol s.RightBracket ∷ rest) rest (bracket_closes rest) comma_in_brackets
+
+  more_in_brackets : (a b : List Token) (x : X) (xs : List X) → BracketItem a x → BracketItems b xs → BracketItems (a ++ t.Symbol s.Comma ∷ b) (x ∷ xs)
+  more_in_brackets = going_on_reads item (past_symbol s.RightBracket) (t.Symbol s.RightBracket ∷ rest) rest (bracket_closes rest) comma_in_brackets
+
+  all_in_brackets : (a : List Token) (xs : List X) → BracketItems a xs → listed item (past_symbol s.RightBracket) (a ++ t.Symbol s.RightBracket ∷ rest) ≡ Some (xs, rest)
+  all_in_brackets = all_reads item (past_symbol s.RightBracket) (t.Symbol s.RightBracket ∷ rest) rest (bracket_closes rest) comma_in_brackets
+
+-- what is shown of each kind
+
+record TypeComplete (a : List Token) (x : TypeExpression) : Type 0 where
+  begins : Named a
+  reads : (n : ℕ) (rest : List Token) → length a ≤ n → past_symbol s.LeftBracket rest ≡ None → type_at n (a ++ rest) ≡ Some (x, rest)
+
+record MarkedComplete (a : List Token) (p : ParameterType) : Type 0 where
+  begins : Named a
+  reads : (n : ℕ) (rest : List Token) → length a ≤ n → past_symbol s.LeftBracket rest ≡ None → past_symbol s.At rest ≡ None → marked_type (type_at n) (a ++ rest) ≡ Some (p, rest)
+
+abbrev AnswerComplete : List Token → Option TypeExpression → Type 0
+AnswerComplete a x = (n : ℕ) (rest : List Token) → length a ≤ n → past_symbol s.LeftBracket rest ≡ None → answer (type_at n) (a ++ rest) ≡ Some (x, rest)
+
+-- what is read of types, and that they are these
+record ReadsTypes (n : ℕ) (rest : List Token) (a : List Token) (xs : TypeExpressions) : Type 0 where
+  trees : List TypeExpression
+  are : types_of trees ≡ xs
+  reads : BracketItems (type_at n) rest a trees
+
+abbrev TypesComplete : List Token → TypeExpressions → Type 0
+TypesComplete a xs = (n : ℕ) (rest : List Token) → length a ≤ n → ReadsTypes n rest a xs
+
+record ReadsMarked (n : ℕ) (rest : List Token) (a : List Token) (ps : ParameterTypes) : Type 0 where
+  trees : List ParameterType
+  are : parameters_of trees ≡ ps
+  reads : BracketItems (marked_type (type_at n)) rest a trees
+
+abbrev MarkedTypesComplete : List Token → ParameterTypes → Type 0
+MarkedTypesComplete a ps = (n : ℕ) (rest : List Token) → length a ≤ n → ReadsMarked n rest a ps
+
+-- names
+
+not_tuple : (rest : List Token) (same : Bool) → past_symbol s.LeftBracket rest ≡ None → (if_same same rest >>= past_symbol s.LeftBracket) ≡ None
+not_tuple rest true h = h
+not_tuple rest false h = refl
+
+not_callable : (rest : List Token) (same : Bool) → past_symbol s.LeftBracket rest ≡ None → (if_same same rest >>= λ z. past_symbol s.LeftBracket z >>= past_symbol s.LeftBracket) ≡ None
+not_callable rest true h = rw h refl
+not_callable rest false h = refl
+
+named_complete : (n : List ℕ) → TypeComplete (t.Name n ∷ []) (named_type n)
+unfolding type_at type_with past_tuple past_callable past_soft_word past_name
+named_complete n = record {
+  begins = record { name = n; others = []; parts = refl };
+  reads = λ m rest le ends.
+      let turn : m ≡ suc (m - 1) = omega arith in
+      let here : type_with (type_at (m - 1)) (t.Name n ∷ rest) ≡ Some (named_type n, rest) = rw (not_tuple rest (bytes_eq n (codes "tuple")) ends, not_callable rest (bytes_eq n (codes "Callable")) ends) refl in
+      ap (λ (d : ℕ). type_at d (t.Name n ∷ rest)) turn ∙ here;
+}
+
+-- tuples
+
+some_read : (ys : List TypeExpression) (x : TypeExpression) (xs : TypeExpressions) → types_of ys ≡ with_type x xs → some_tuple ys ≡ Some (tuple_type (with_type x xs))
+some_read [] x xs e = absurd cc
+some_read (y ∷ ys) x xs e = ap (λ (z : TypeExpressions). some (tuple_type z)) e
+
+tuple_complete : (a : List Token) (x : TypeExpression) (xs : TypeExpressions) → TypesComplete a (with_type x xs) → TypeComplete (t.Name (codes "tuple") ∷ t.Symbol s.LeftBracket ∷ (a ++ t.Symbol s.RightBracket ∷ [])) (tuple_type (with_type x xs))
+unfolding type_at type_with tuple_behind
+tuple_complete a x xs c = record {
+  begins = record { name = codes "tuple"; others = t.Symbol s.LeftBracket ∷ (a ++ t.Symbol s.RightBracket ∷ []); parts = refl };
+  reads = λ m rest le ends.
+      let sized = length-append a (t.Symbol s.RightBracket ∷ []) in
+      let turn : m ≡ suc (m - 1) = omega arith in
+      let inside = c (m - 1) rest (omega (arith, sized)) in
+      let all = all_in_brackets (type_at (m - 1)) rest a inside.trees inside.reads in
+      let tokens = t.Name (codes "tuple") ∷ t.Symbol s.LeftBracket ∷ ((a ++ t.Symbol s.RightBracket ∷ []) ++ rest) in
+      let here : type_with (type_at (m - 1)) tokens ≡ Some (tuple_type (with_type x xs), rest) =
+      rw (this_tuple ((a ++ t.Symbol s.RightBracket ∷ []) ++ rest), append_assoc a (t.Symbol s.RightBracket ∷ []) rest, all, some_read inside.trees x xs inside.are) refl in
+      ap (λ (d : ℕ). type_at d tokens) turn ∙ here;
+}
+
+type_item : (a : List Token) (x : TypeExpression) (n : ℕ) (rest : List Token) → length a ≤ n → TypeComplete a x → BracketItem (type_at n) rest a x
 type_item a x n rest le c = record {
   at_end = c.reads n (t.Symbol s.RightBracket ∷ rest) le (right_is_no_left rest);
   at_comma = λ b. c.reads n (t.Symbol s.Comma ∷ b) le (comma_is_no_left b);
@@ -129,43 +216,133 @@ type_item a x n rest le c = record {
   opens_comma = λ b. named_symbol s.RightBracket a (t.Symbol s.Comma ∷ b) c.begins;
 }
 
-module _ (n : ℕ) (rest : List Token) where
-  abbrev TypesRead : List Token → List TypeExpression → Type 0
-  TypesRead = ListReads (type_at n) (past_symbol s.RightBracket) (t.Symbol s.RightBracket ∷ rest) rest
-
-  no_types_read : TypesRead [] []
-  no_types_read = nothing_reads (type_at n) (past_symbol s.RightBracket) (t.Symbol s.RightBracket ∷ rest) rest (bracket_closes rest) comma_in_brackets
-
-  last_type_read : (a : List Token) (x : TypeExpression) → TypeComplete a x → length a ≤ n → TypesRead a (x ∷ [])
-  last_type_read a x c le = last_reads (type_at n) (past_symbol s.RightBracket) (t.Symbol s.RightBracket ∷ rest) rest (bracket_closes rest) comma_in_brackets a x (type_item a x n rest le c)
-
-  more_types_read : (a b : List Token) (x : TypeExpression) (xs : List TypeExpression) → TypeComplete a x → length a ≤ n → TypesRead b xs → TypesRead (a ++ t.Symbol s.Comma ∷ b) (x ∷ xs)
-  more_types_read a b x xs c le d = going_on_reads (type_at n) (past_symbol s.RightBracket) (t.Symbol s.RightBracket ∷ rest) rest (bracket_closes rest) comma_in_brackets a b x xs (type_item a x n rest le c) d
-
 no_types_complete : TypesComplete [] no_types
-no_types_complete n rest le = record { trees = []; are = refl; reads = no_types_read n rest }
+no_types_complete n rest le = record { trees = []; are = refl; reads = none_in_brackets (type_at n) rest }
 
 last_type_complete : (a : List Token) (x : TypeExpression) → TypeComplete a x → TypesComplete a (with_type x no_types)
-last_type_complete a x c n rest le = record { trees = x ∷ []; are = refl; reads = last_type_read n rest a x c le }
+last_type_complete a x c n rest le = record { trees = x ∷ []; are = refl; reads = last_in_brackets (type_at n) rest a x (type_item a x n rest le c) }
 
 more_types_complete : (a b : List Token) (x : TypeExpression) (xs : TypeExpressions) → TypeComplete a x → TypesComplete b xs → TypesComplete (a ++ t.Symbol s.Comma ∷ b) (with_type x xs)
 more_types_complete a b x xs c d n rest le =
     let sized = length-append a (t.Symbol s.Comma ∷ b) in
     let others = d n rest (omega (arith, sized)) in
-    record { trees = x ∷ others.trees; are = ap (λ (z : TypeExpressions). with_type x z) others.are; reads = more_types_read n rest a b x others.trees c (omega (arith, sized)) others.reads }
+    let item = type_item a x n rest (omega (arith, sized)) c in
+    record { trees = x ∷ others.trees; are = ap (λ (z : TypeExpressions). with_type x z) others.are; reads = more_in_brackets (type_at n) rest a b x others.trees item others.reads }
+
+-- types with a mark or without one
+
+unmarked_complete : (a : List Token) (x : TypeExpression) → TypeComplete a x → MarkedComplete a (marked x false)
+unfolding marked_type
+unmarked_complete a x c = record {
+  begins = c.begins;
+  reads = λ n rest le ends unmark. rw (c.reads n rest le ends, unmarked rest unmark) refl;
+}
+
+owned_complete : (a : List Token) (x : TypeExpression) → TypeComplete a x → MarkedComplete (a ++ t.Symbol s.At ∷ t.Name (codes "owned") ∷ []) (marked x true)
+unfolding marked_type
+owned_complete a x c = record {
+  begins = named_longer a (t.Symbol s.At ∷ t.Name (codes "owned") ∷ []) c.begins;
+  reads = λ n rest le ends unmark.
+      let mark = t.Symbol s.At ∷ t.Name (codes "owned") ∷ [] in
+      let sized = length-append a mark in
+      let ty = c.reads n (mark ++ rest) (omega (arith, sized)) (at_is_no_left (t.Name (codes "owned") ∷ rest)) in
+      ap (marked_type (type_at n)) (append_assoc a mark rest) ∙ rw (ty, this_mark rest) refl;
+}
+
+marked_item : (a : List Token) (p : ParameterType) (n : ℕ) (rest : List Token) → length a ≤ n → MarkedComplete a p → BracketItem (marked_type (type_at n)) rest a p
+marked_item a p n rest le c = record {
+  at_end = c.reads n (t.Symbol s.RightBracket ∷ rest) le (right_is_no_left rest) (right_is_no_mark rest);
+  at_comma = λ b. c.reads n (t.Symbol s.Comma ∷ b) le (comma_is_no_left b) (comma_is_no_mark b);
+  opens_end = named_symbol s.RightBracket a (t.Symbol s.RightBracket ∷ rest) c.begins;
+  opens_comma = λ b. named_symbol s.RightBracket a (t.Symbol s.Comma ∷ b) c.begins;
+}
+
+no_marked_complete : MarkedTypesComplete [] no_parameters
+no_marked_complete n rest le = record { trees = []; are = refl; reads = none_in_brackets (marked_type (type_at n)) rest }
+
+last_marked_complete : (a : List Token) (p : ParameterType) → MarkedComplete a p → MarkedTypesComplete a (with_parameter p.ty p.owned no_parameters)
+last_marked_complete a p c n rest le = record { trees = p ∷ []; are = refl; reads = last_in_brackets (marked_type (type_at n)) rest a p (marked_item a p n rest le c) }
+
+more_marked_complete : (a b : List Token) (p : ParameterType) (ps : ParameterTypes) → MarkedComplete a p → MarkedTypesComplete b ps → MarkedTypesComplete (a ++ t.Symbol s.Comma ∷ b) (with_parameter p.ty p.owned ps)
+more_marked_complete a b p ps c d n rest le =
+    let sized = length-append a (t.Symbol s.Comma ∷ b) in
+    let others = d n rest (omega (arith, sized)) in
+    let item = marked_item a p n rest (omega (arith, sized)) c in
+    record { trees = p ∷ others.trees; are = ap (λ (z : ParameterTypes). with_parameter p.ty p.owned z) others.are; reads = more_in_brackets (marked_type (type_at n)) rest a b p others.trees item others.reads }
+
+-- function types
+
+typed_complete : (a : List Token) (x : TypeExpression) → TypeComplete a x → AnswerComplete a (Some x)
+unfolding answer
+typed_complete a x c n rest le ends = rw (named_word k.NoneWord a rest c.begins, c.reads n rest le ends) refl
+
+none_complete : AnswerComplete (t.Keyword k.NoneWord ∷ []) None
+unfolding answer
+none_complete n rest le ends = rw (past_none rest) refl
+
+-- behind the word and both brackets
+function_reads : (n : ℕ) (a b : List Token) (ps : ParameterTypes) (r : Option TypeExpression) (rest : List Token) → length a ≤ n → length b ≤ n → MarkedTypesComplete a ps → AnswerComplete b r → function_behind (type_at n) (a ++ t.Symbol s.RightBracket ∷ t.Symbol s.Comma ∷ (b ++ t.Symbol s.RightBracket ∷ rest)) ≡ Some (function_type ps (result_of r), rest)
+unfolding function_behind
+function_reads n a b ps r rest le lb c d =
+    let end = t.Symbol s.RightBracket ∷ rest in
+    let after = t.Symbol s.Comma ∷ (b ++ end) in
+    let inside = c n after le in
+    let all = all_in_brackets (marked_type (type_at n)) after a inside.trees inside.reads in
+    let answered = d n end lb (right_is_no_left rest) in
+    rw (all, past_comma (b ++ end), answered, bracket_closes rest) (ap (λ (z : ParameterTypes). some (function_type z (result_of r), rest)) inside.are)
+
+function_complete : (a b : List Token) (ps : ParameterTypes) (r : Option TypeExpression) → MarkedTypesComplete a ps → AnswerComplete b r → TypeComplete (t.Name (codes "Callable") ∷ t.Symbol s.LeftBracket ∷ t.Symbol s.LeftBracket ∷ (a ++ t.Symbol s.RightBracket ∷ t.Symbol s.Comma ∷ (b ++ t.Symbol s.RightBracket ∷ []))) (function_type ps (result_of r))
+unfolding type_at type_with
+function_complete a b ps r c d =
+    let closing = t.Symbol s.RightBracket ∷ [] in
+    let behind = t.Symbol s.RightBracket ∷ t.Symbol s.Comma ∷ (b ++ closing) in
+    let lead = λ (z : List Token). t.Name (codes "Callable") ∷ t.Symbol s.LeftBracket ∷ t.Symbol s.LeftBracket ∷ z in
+    record {
+      begins = record { name = codes "Callable"; others = t.Symbol s.LeftBracket ∷ t.Symbol s.LeftBracket ∷ (a ++ behind); parts = refl };
+      reads = λ m rest le ends.
+          let first = length-append a behind in
+          let second = length-append b closing in
+          let turn : m ≡ suc (m - 1) = omega arith in
+          let regroup : (a ++ behind) ++ rest ≡ a ++ t.Symbol s.RightBracket ∷ t.Symbol s.Comma ∷ (b ++ t.Symbol s.RightBracket ∷ rest) = append_assoc a behind rest ∙ ap (λ (z : List Token). a ++ t.Symbol s.RightBracket ∷ t.Symbol s.Comma ∷ z) (append_assoc b closing rest) in
+          let inside = function_reads (m - 1) a b ps r rest (omega (arith, first, second)) (omega (arith, first, second)) c d in
+          let tokens = lead ((a ++ behind) ++ rest) in
+          let here : type_with (type_at (m - 1)) tokens ≡ Some (function_type ps (result_of r), rest) =
+          rw (callable_is_no_tuple (t.Symbol s.LeftBracket ∷ t.Symbol s.LeftBracket ∷ ((a ++ behind) ++ rest)), this_callable ((a ++ behind) ++ rest), regroup, inside) refl in
+          ap (λ (d : ℕ). type_at d tokens) turn ∙ here;
+    }
 
 mutual
   complete_type : {a : List Token} {x : TypeExpression} → SpellsType a x → TypeComplete a x
   complete_type (g.named n) = named_complete n
   complete_type (g.tuple a x xs d) = tuple_complete a x xs (complete_types d)
+  complete_type (g.function a b ps r d e) = function_complete a b ps r (complete_marked_types d) (complete_answer e)
 
   complete_types : {a : List Token} {xs : TypeExpressions} → SpellsTypes a xs → TypesComplete a xs
   complete_types g.nothing = no_types_complete
   complete_types (g.last a x d) = last_type_complete a x (complete_type d)
   complete_types (g.going_on a b x xs d ds) = more_types_complete a b x xs (complete_type d) (complete_types ds)
 
+  complete_marked_type : {a : List Token} {p : ParameterType} → SpellsMarkedType a p → MarkedComplete a p
+  complete_marked_type (g.plain a x d) = unmarked_complete a x (complete_type d)
+  complete_marked_type (g.owned a x d) = owned_complete a x (complete_type d)
+
+  complete_marked_types : {a : List Token} {ps : ParameterTypes} → SpellsMarkedTypes a ps → MarkedTypesComplete a ps
+  complete_marked_types g.no_marked = no_marked_complete
+  complete_marked_types (g.last_marked a p d) = last_marked_complete a p (complete_marked_type d)
+  complete_marked_types (g.more_marked a b p ps d ds) = more_marked_complete a b p ps (complete_marked_type d) (complete_marked_types ds)
+
+  complete_answer : {a : List Token} {x : Option TypeExpression} → SpellsAnswer a x → AnswerComplete a x
+  complete_answer (g.typed a x d) = typed_complete a x (complete_type d)
+  complete_answer g.none = none_complete
+
 pub type_complete : {a : List Token} {x : TypeExpression} → SpellsType a x → (rest : List Token) → past_symbol s.LeftBracket rest ≡ None → a_type (a ++ rest) ≡ Some (x, rest)
 type_complete {a} d rest ends = (complete_type d).reads (suc (length (a ++ rest))) rest (omega (arith, length-append a rest)) ends
+
+marked_type_complete : {a : List Token} {p : ParameterType} → SpellsMarkedType a p → (rest : List Token) → past_symbol s.LeftBracket rest ≡ None → past_symbol s.At rest ≡ None → a_marked_type (a ++ rest) ≡ Some (p, rest)
+marked_type_complete {a} d rest ends unmark = (complete_marked_type d).reads (suc (length (a ++ rest))) rest (omega (arith, length-append a rest)) ends unmark
+
+answer_complete : {a : List Token} {x : Option TypeExpression} → SpellsAnswer a x → (rest : List Token) → past_symbol s.LeftBracket rest ≡ None → an_answer (a ++ rest) ≡ Some (x, rest)
+answer_complete {a} d rest ends = complete_answer d (suc (length (a ++ rest))) rest (omega (arith, length-append a rest)) ends
 
 -- ---- single tokens
 
@@ -176,10 +353,6 @@ line_ends = refl
 paren_closes : (rest : List Token) → past_end until.Paren (t.Symbol s.RightParen ∷ rest) ≡ Some rest
 unfolding past_end past_symbol
 paren_closes rest = refl
-
-past_comma : (rest : List Token) → past_symbol s.Comma (t.Symbol s.Comma ∷ rest) ≡ Some rest
-unfolding past_symbol
-past_comma rest = refl
 
 -- symbols other than this one
 comma_no_dot : (rest : List Token) → past_symbol s.Dot (t.Symbol s.Comma ∷ rest) ≡ None
@@ -196,28 +369,12 @@ paren_no_dot rest = refl
 
 -- ---- parameters
 
-unmarked : (rest : List Token) → past_symbol s.At rest ≡ None → owned_mark rest ≡ Some (false, rest)
-unfolding owned_mark
-unmarked rest h = rw h refl
-
-marked : (rest : List Token) → owned_mark (t.Symbol s.At ∷ t.Name (codes "owned") ∷ rest) ≡ Some (true, rest)
-unfolding owned_mark past_symbol
-marked rest = rw (this_text (codes "owned") rest) refl
-
-at_no_bracket : (rest : List Token) → past_symbol s.LeftBracket (t.Symbol s.At ∷ rest) ≡ None
-unfolding past_symbol
-at_no_bracket rest = refl
-
 param_complete : {a : List Token} {p : Parameter} → SpellsParam a p → (rest : List Token) → past_symbol s.LeftBracket rest ≡ None → past_symbol s.At rest ≡ None → param (a ++ rest) ≡ Some (p, rest)
 unfolding param past_name past_symbol
-param_complete (g.plain n a x d) rest ends unmark = rw (type_complete d rest ends, unmarked rest unmark) refl
-param_complete (g.owned n a x d) rest ends unmark =
-    let mark = t.Symbol s.At ∷ t.Name (codes "owned") ∷ rest in
-    ap (λ (z : List Token). param (t.Name n ∷ t.Symbol s.Colon ∷ z)) (append_assoc a (t.Symbol s.At ∷ t.Name (codes "owned") ∷ []) rest) ∙ rw (type_complete d mark (at_no_bracket (t.Name (codes "owned") ∷ rest)), marked rest) refl
+param_complete (g.param n a p d) rest ends unmark = rw (marked_type_complete d rest ends unmark) refl
 
 param_named : {a : List Token} {p : Parameter} → SpellsParam a p → Named a
-param_named (g.plain n a x d) = record { name = n; others = t.Symbol s.Colon ∷ a; parts = refl }
-param_named (g.owned n a x d) = record { name = n; others = t.Symbol s.Colon ∷ (a ++ t.Symbol s.At ∷ t.Name (codes "owned") ∷ []); parts = refl }
+param_named (g.param n a p d) = record { name = n; others = t.Symbol s.Colon ∷ a; parts = refl }
 
 -- a name is not the end
 named_goes_on : (to : ListEnd) (a rest : List Token) → Named a → past_end to (a ++ rest) ≡ None
@@ -233,14 +390,10 @@ paren_no_mark : (rest : List Token) → past_symbol s.At (t.Symbol s.RightParen 
 unfolding past_symbol
 paren_no_mark rest = refl
 
-comma_no_mark : (rest : List Token) → past_symbol s.At (t.Symbol s.Comma ∷ rest) ≡ None
-unfolding past_symbol
-comma_no_mark rest = refl
-
 param_item : (rest a : List Token) (p : Parameter) → SpellsParam a p → ItemReads param (past_end until.Paren) (t.Symbol s.RightParen ∷ rest) a p
 param_item rest a p d = record {
   at_end = param_complete d (t.Symbol s.RightParen ∷ rest) (paren_no_bracket rest) (paren_no_mark rest);
-  at_comma = λ b. param_complete d (t.Symbol s.Comma ∷ b) (comma_is_no_left b) (comma_no_mark b);
+  at_comma = λ b. param_complete d (t.Symbol s.Comma ∷ b) (comma_is_no_left b) (comma_is_no_mark b);
   opens_end = named_goes_on until.Paren a (t.Symbol s.RightParen ∷ rest) (param_named d);
   opens_comma = λ b. named_goes_on until.Paren a (t.Symbol s.Comma ∷ b) (param_named d);
 }
@@ -620,10 +773,6 @@ unfolding body
 body_complete g.block = rw (past_colon [], line_ends) refl
 body_complete (g.simple a v d) = rw (past_colon a, (simple_complete d).some_token, simple_reads d) refl
 
-type_named : {a : List Token} {ty : TypeExpression} → SpellsType a ty → Named a
-type_named (g.named n) = record { name = n; others = []; parts = refl }
-type_named (g.tuple a ty tys d) = record { name = codes "tuple"; others = t.Symbol s.LeftBracket ∷ (a ++ t.Symbol s.RightBracket ∷ []); parts = refl }
-
 colon_no_bracket : (rest : List Token) → past_symbol s.LeftBracket (t.Symbol s.Colon ∷ rest) ≡ None
 unfolding past_symbol
 colon_no_bracket rest = refl
@@ -636,15 +785,10 @@ past_arrow : (rest : List Token) → past_symbol s.Arrow (t.Symbol s.Arrow ∷ r
 unfolding past_symbol
 past_arrow rest = refl
 
-past_none : (rest : List Token) → past_word k.NoneWord (t.Keyword k.NoneWord ∷ rest) ≡ Some rest
-unfolding past_word
-past_none rest = refl
-
 result_complete : {b : List Token} {ty : Option TypeExpression} → SpellsResult b ty → (c : List Token) → result_type (b ++ t.Symbol s.Colon ∷ c) ≡ Some (ty, t.Symbol s.Colon ∷ c)
 unfolding result_type
 result_complete g.missing c = rw (colon_no_arrow c) refl
-result_complete (g.typed a ty d) c = rw (past_arrow (a ++ t.Symbol s.Colon ∷ c), named_word k.NoneWord a (t.Symbol s.Colon ∷ c) (type_named d), type_complete d (t.Symbol s.Colon ∷ c) (colon_no_bracket c)) refl
-result_complete g.none c = rw (past_arrow (t.Keyword k.NoneWord ∷ t.Symbol s.Colon ∷ c), past_none (t.Symbol s.Colon ∷ c)) refl
+result_complete (g.given a ty d) c = rw (past_arrow (a ++ t.Symbol s.Colon ∷ c)) (answer_complete d (t.Symbol s.Colon ∷ c) (colon_no_bracket c))
 
 def_complete : (n : List ℕ) (a b c : List Token) (ps : List Parameter) (ty : Option TypeExpression) (y : MaybeForm) → Listed SpellsParam a ps → SpellsResult b ty → SpellsBody c y → def_header (t.Name n ∷ t.Symbol s.LeftParen ∷ (a ++ t.Symbol s.RightParen ∷ (b ++ t.Symbol s.Colon ∷ c))) ≡ Some (f.def_header n ps ty y)
 unfolding def_header past_name

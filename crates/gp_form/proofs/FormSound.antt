@@ -11,7 +11,7 @@ use Rattle.gp_tree.specs.declared.expr.BinOp.{BinOp}
 use Rattle.gp_tree.specs.declared.place.Targets.{Targets}
 use Rattle.gp_tree.specs.declared.place.Targets.TheVariants as to
 use Rattle.gp_tree.specs.Expression.{Expression}
-use Rattle.gp_tree.specs.TypeExpression.{TypeExpression, named_type, tuple_type, types_of}
+use Rattle.gp_tree.specs.TypeExpression.{TypeExpression, ParameterType, named_type, tuple_type, function_type, types_of, parameters_of, result_of}
 use Rattle.gp_tree.specs.Form.{Parameter, Form, MaybeForm, no_form, some_form}
 use Rattle.gp_tree.specs.Form as f
 use Rattle.gp_form.specs.declared.assigning.Assigning.{Assigning}
@@ -20,10 +20,10 @@ use Rattle.gp_form.specs.declared.level.Level.TheVariants.{Whole}
 use Rattle.gp_form.specs.Grammar.{Spells, SpellsPlace}
 use Rattle.gp_form.specs.declared.list_end.ListEnd.TheVariants as until
 use Rattle.gp_form.specs.Forms as g
-use Rattle.gp_form.specs.Forms.{Listed, SpellsType, SpellsTypes, parameter_of, SpellsParam, SpellsPlaces, SpellsTargets, augmenting, SpellsSimple, SpellsBody, SpellsResult, IsMaybeComma, SpellsName, SpellsNames, SpellsImported, dotted, SpellsForm}
+use Rattle.gp_form.specs.Forms.{Listed, marked, SpellsType, SpellsTypes, SpellsMarkedType, SpellsMarkedTypes, SpellsAnswer, parameter_of, SpellsParam, SpellsPlaces, SpellsTargets, augmenting, SpellsSimple, SpellsBody, SpellsResult, IsMaybeComma, SpellsName, SpellsNames, SpellsImported, dotted, SpellsForm}
 use Rattle.gp_form.specs.code.Steps.{Read, ◌>>=◌, past_symbol, past_word, past_name}
 use Rattle.gp_form.specs.code.Reading.{past_end, place_front, expression_front}
-use Rattle.gp_form.specs.code.FormReading.{nothing, past_string, all_of, some_tuple, past_tuple, type_with, type_at, a_type, owned_mark, param, pattern_inside, pattern_outside, targets, assigning_symbol, assigning, split, assigned, declaration, past_declared, past_request, docstring, module_call, evaluated, unled, alone, returned, statement, only_simple, simple, body, result_type, def_header, class_header, test_and_body, tested, else_header, maybe_comma, past_range, for_header, decorator, some_names, names_from, imported, import_names, first_word, led, line}
+use Rattle.gp_form.specs.code.FormReading.{nothing, past_string, all_of, some_tuple, past_tuple, past_callable, owned_mark, tuple_behind, marked_type, answer, function_behind, type_with, type_at, a_type, a_marked_type, an_answer, param, pattern_inside, pattern_outside, targets, assigning_symbol, assigning, split, assigned, declaration, past_declared, past_request, docstring, module_call, evaluated, unled, alone, returned, statement, only_simple, simple, body, result_type, def_header, class_header, test_and_body, tested, else_header, maybe_comma, past_range, for_header, decorator, some_names, names_from, imported, import_names, first_word, led, line}
 use Rattle.gp_form.proofs.StepLemmas.{bind_some, found_some, on, off, some, some_is, symbol_is, word_is, name_is, Front, IsSound, made, joined_parts}
 use Rattle.gp_form.proofs.FormWords.{text_is, paren_is, nothing_is, string_is}
 use Rattle.gp_form.proofs.ListedItems.{listed_sound, to_the_end}
@@ -47,45 +47,31 @@ types_from g.nothing = g.nothing
 types_from (g.last a v d) = g.last a v d
 types_from (g.going_on a b v vs d ds) = g.going_on a b v (types_of vs) d (types_from ds)
 
--- what stands in the brackets, and the brackets
-tuple_sound : (ts rest inside end : List Token) (vs : List TypeExpression) (x : TypeExpression × List Token) → ts ≡ t.Name (codes "tuple") ∷ t.Symbol s.LeftBracket ∷ rest → rest ≡ inside ++ t.Symbol s.RightBracket ∷ end → Listed SpellsType inside vs → (some_tuple vs >>= λ z. Some (z, end)) ≡ Some x → Front SpellsType ts x
-tuple_sound ts rest inside end [] x parts others is h = absurd cc
-tuple_sound ts rest inside end (v ∷ vs) x parts others is h =
-    let taken = t.Name (codes "tuple") ∷ t.Symbol s.LeftBracket ∷ (inside ++ t.Symbol s.RightBracket ∷ []) in
-    let regroup : (inside ++ t.Symbol s.RightBracket ∷ []) ++ end ≡ inside ++ t.Symbol s.RightBracket ∷ end = append_assoc inside (t.Symbol s.RightBracket ∷ []) end in
-    let all : ts ≡ taken ++ end = parts ∙ ap (λ (z : List Token). t.Name (codes "tuple") ∷ t.Symbol s.LeftBracket ∷ z) (others ∙ sym regroup) in
-    made SpellsType ts (tuple_type (types_of (v ∷ vs))) end x taken h all (g.tuple inside v (types_of vs) (types_from is))
+marked_types_from : {a : List Token} {ps : List ParameterType} → Listed SpellsMarkedType a ps → SpellsMarkedTypes a (parameters_of ps)
+marked_types_from g.nothing = g.no_marked
+marked_types_from (g.last a p d) = g.last_marked a p d
+marked_types_from (g.going_on a b p ps d ds) = g.more_marked a b p (parameters_of ps) d (marked_types_from ds)
 
-past_tuple_is : (ts rest : List Token) → past_tuple ts ≡ Some rest → ts ≡ t.Name (codes "tuple") ∷ t.Symbol s.LeftBracket ∷ rest
+-- the lead of a tuple's type, and of a function type
+abbrev tuple_lead : List Token → List Token
+tuple_lead ts = t.Name (codes "tuple") ∷ t.Symbol s.LeftBracket ∷ ts
+
+abbrev callable_lead : List Token → List Token
+callable_lead ts = t.Name (codes "Callable") ∷ t.Symbol s.LeftBracket ∷ t.Symbol s.LeftBracket ∷ ts
+
+past_tuple_is : (ts rest : List Token) → past_tuple ts ≡ Some rest → ts ≡ tuple_lead rest
 unfolding past_tuple
 past_tuple_is ts rest h =
     let word = bind_some _ _ rest h in
     text_is (codes "tuple") ts word.0 word.1 ∙ ap (λ (z : List Token). t.Name (codes "tuple") ∷ z) (symbol_is s.LeftBracket word.0 rest word.2)
 
-module _ (inner : Read TypeExpression) (inner_sound : IsSound SpellsType inner) where
-  type_with_sound : IsSound SpellsType (type_with inner)
-  unfolding type_with
-  type_with_sound ts x h =
-      elim (found_some _ _ _ x h) [
-        | on rest k go ↦
-            let b = bind_some _ _ x go in
-            let parts = past_tuple_is ts rest k in
-            let all = listed_sound SpellsType (Listed SpellsType) inner (past_symbol s.RightBracket) (t.Symbol s.RightBracket ∷ []) g.nothing g.last g.going_on inner_sound (symbol_is s.RightBracket) rest b.0 b.1 in
-            tuple_sound ts rest all.inside b.0.1 b.0.0 x parts all.parts all.is b.2
-        | off k go ↦
-            let b = bind_some _ _ x go in
-            made SpellsType ts (named_type b.0.0) b.0.1 x (t.Name b.0.0 ∷ []) b.2 (name_is ts b.0 b.1) (g.named b.0.0)
-      ]
-
-type_at_sound : (n : ℕ) → IsSound SpellsType (type_at n)
-unfolding type_at
-type_at_sound zero ts x h = absurd cc
-type_at_sound (suc n) ts x h = type_with_sound (type_at n) (type_at_sound n) ts x h
-
-pub type_sound : IsSound SpellsType a_type
-type_sound ts x h = type_at_sound (suc (length ts)) ts x h
-
--- ---- parameters
+past_callable_is : (ts rest : List Token) → past_callable ts ≡ Some rest → ts ≡ callable_lead rest
+unfolding past_callable
+past_callable_is ts rest h =
+    let word = bind_some _ _ rest h in
+    let left = bind_some _ _ rest word.2 in
+    let brackets : word.0 ≡ t.Symbol s.LeftBracket ∷ t.Symbol s.LeftBracket ∷ rest = symbol_is s.LeftBracket word.0 left.0 left.1 ∙ ap (λ (z : List Token). t.Symbol s.LeftBracket ∷ z) (symbol_is s.LeftBracket left.0 rest left.2) in
+    text_is (codes "Callable") ts word.0 word.1 ∙ ap (λ (z : List Token). t.Name (codes "Callable") ∷ z) brackets
 
 data SpellsMark : List Token → Bool → Type 0 where
   absent : SpellsMark [] false
@@ -101,9 +87,89 @@ owned_mark_sound ts x h =
       | off k go ↦ made SpellsMark ts false ts x [] go refl absent
     ]
 
-marked : (n : List ℕ) (a : List Token) (ty : TypeExpression) {b : List Token} {o : Bool} → SpellsType a ty → SpellsMark b o → SpellsParam (t.Name n ∷ t.Symbol s.Colon ∷ (a ++ b)) (parameter_of n ty o)
-marked n a ty is absent = subst (λ (z : List Token). SpellsParam (t.Name n ∷ t.Symbol s.Colon ∷ z) (parameter_of n ty false)) (sym (append-nil a)) (g.plain n a ty is)
-marked n a ty is present = g.owned n a ty is
+with_mark : (a : List Token) (ty : TypeExpression) {b : List Token} {o : Bool} → SpellsType a ty → SpellsMark b o → SpellsMarkedType (a ++ b) (marked ty o)
+with_mark a ty is absent = subst (λ (z : List Token). SpellsMarkedType z (marked ty false)) (sym (append-nil a)) (g.plain a ty is)
+with_mark a ty is present = g.owned a ty is
+
+some_tuple_sound : (a : List Token) (vs : List TypeExpression) (x : TypeExpression) → Listed SpellsType a vs → some_tuple vs ≡ Some x → SpellsType (tuple_lead (a ++ t.Symbol s.RightBracket ∷ [])) x
+some_tuple_sound a [] x is h = absurd cc
+some_tuple_sound a (v ∷ vs) x is h = moved SpellsType _ _ (tuple_type (types_of (v ∷ vs))) x refl h (g.tuple a v (types_of vs) (types_from is))
+
+module _ (inner : Read TypeExpression) (inner_sound : IsSound SpellsType inner) where
+  tuple_sound : (ts rest : List Token) (x : TypeExpression × List Token) → ts ≡ tuple_lead rest → tuple_behind inner rest ≡ Some x → Front SpellsType ts x
+  unfolding tuple_behind
+  tuple_sound ts rest x lead h =
+      let parts = bind_some _ _ x h in
+      let v = bind_some _ _ x parts.2 in
+      let all = listed_sound SpellsType (Listed SpellsType) inner (past_symbol s.RightBracket) (t.Symbol s.RightBracket ∷ []) g.nothing g.last g.going_on inner_sound (symbol_is s.RightBracket) rest parts.0 parts.1 in
+      let closed : rest ≡ (all.inside ++ t.Symbol s.RightBracket ∷ []) ++ parts.0.1 = all.parts ∙ sym (append_assoc all.inside (t.Symbol s.RightBracket ∷ []) parts.0.1) in
+      made SpellsType ts v.0 parts.0.1 x (tuple_lead (all.inside ++ t.Symbol s.RightBracket ∷ [])) v.2 (lead ∙ ap tuple_lead closed) (some_tuple_sound all.inside parts.0.0 v.0 all.is v.1)
+
+  marked_type_sound : IsSound SpellsMarkedType (marked_type inner)
+  unfolding marked_type
+  marked_type_sound ts x h =
+      let ty = bind_some _ _ x h in
+      let mark = bind_some _ _ x ty.2 in
+      let a = inner_sound ts ty.0 ty.1 in
+      let b = owned_mark_sound ty.0.1 mark.0 mark.1 in
+      made SpellsMarkedType ts (marked ty.0.0 mark.0.0) mark.0.1 x (a.taken ++ b.taken) mark.2 (joined_parts ts a.taken ty.0.1 b.taken mark.0.1 a.parts b.parts) (with_mark a.taken ty.0.0 a.is b.is)
+
+  answer_sound : IsSound SpellsAnswer (answer inner)
+  unfolding answer
+  answer_sound ts x h =
+      elim (found_some _ _ _ x h) [
+        | on rest m go ↦ made SpellsAnswer ts None rest x (t.Keyword k.NoneWord ∷ []) go (word_is k.NoneWord ts rest m) g.none
+        | off m go ↦
+            let b = bind_some _ _ x go in
+            let a = inner_sound ts b.0 b.1 in
+            made SpellsAnswer ts (Some b.0.0) b.0.1 x a.taken b.2 a.parts (g.typed a.taken b.0.0 a.is)
+      ]
+
+  function_sound : (ts rest : List Token) (x : TypeExpression × List Token) → ts ≡ callable_lead rest → function_behind inner rest ≡ Some x → Front SpellsType ts x
+  unfolding function_behind
+  function_sound ts rest x lead h =
+      let ps = bind_some _ _ x h in
+      let comma = bind_some _ _ x ps.2 in
+      let r = bind_some _ _ x comma.2 in
+      let end = bind_some _ _ x r.2 in
+      let all = listed_sound SpellsMarkedType (Listed SpellsMarkedType) (marked_type inner) (past_symbol s.RightBracket) (t.Symbol s.RightBracket ∷ []) g.nothing g.last g.going_on marked_type_sound (symbol_is s.RightBracket) rest ps.0 ps.1 in
+      let b = answer_sound comma.0 r.0 r.1 in
+      let closing = t.Symbol s.RightBracket ∷ [] in
+      let answered : comma.0 ≡ (b.taken ++ closing) ++ end.0 = b.parts ∙ ap (λ (z : List Token). b.taken ++ z) (symbol_is s.RightBracket r.0.1 end.0 end.1) ∙ sym (append_assoc b.taken closing end.0) in
+      let behind : ps.0.1 ≡ t.Symbol s.Comma ∷ ((b.taken ++ closing) ++ end.0) = symbol_is s.Comma ps.0.1 comma.0 comma.1 ∙ ap (λ (z : List Token). t.Symbol s.Comma ∷ z) answered in
+      let inside = all.inside ++ t.Symbol s.RightBracket ∷ t.Symbol s.Comma ∷ (b.taken ++ closing) in
+      let parts : rest ≡ inside ++ end.0 = all.parts ∙ ap (λ (z : List Token). all.inside ++ t.Symbol s.RightBracket ∷ z) behind ∙ sym (append_assoc all.inside (t.Symbol s.RightBracket ∷ t.Symbol s.Comma ∷ (b.taken ++ closing)) end.0) in
+      made SpellsType ts (function_type (parameters_of ps.0.0) (result_of r.0.0)) end.0 x (callable_lead inside) end.2 (lead ∙ ap callable_lead parts) (g.function all.inside b.taken (parameters_of ps.0.0) r.0.0 (marked_types_from all.is) b.is)
+
+  type_with_sound : IsSound SpellsType (type_with inner)
+  unfolding type_with
+  type_with_sound ts x h =
+      elim (found_some _ _ _ x h) [
+        | on rest m go ↦ tuple_sound ts rest x (past_tuple_is ts rest m) go
+        | off m other ↦
+            elim (found_some _ _ _ x other) [
+              | on rest n go ↦ function_sound ts rest x (past_callable_is ts rest n) go
+              | off n go ↦
+                  let b = bind_some _ _ x go in
+                  made SpellsType ts (named_type b.0.0) b.0.1 x (t.Name b.0.0 ∷ []) b.2 (name_is ts b.0 b.1) (g.named b.0.0)
+            ]
+      ]
+
+type_at_sound : (n : ℕ) → IsSound SpellsType (type_at n)
+unfolding type_at
+type_at_sound zero ts x h = absurd cc
+type_at_sound (suc n) ts x h = type_with_sound (type_at n) (type_at_sound n) ts x h
+
+pub type_sound : IsSound SpellsType a_type
+type_sound ts x h = type_at_sound (suc (length ts)) ts x h
+
+a_marked_type_sound : IsSound SpellsMarkedType a_marked_type
+a_marked_type_sound ts x h = let n = suc (length ts) in marked_type_sound (type_at n) (type_at_sound n) ts x h
+
+an_answer_sound : IsSound SpellsAnswer an_answer
+an_answer_sound ts x h = let n = suc (length ts) in answer_sound (type_at n) (type_at_sound n) ts x h
+
+-- ---- parameters
 
 param_sound : IsSound SpellsParam param
 unfolding param
@@ -111,12 +177,10 @@ param_sound ts x h =
     let n = bind_some _ _ x h in
     let colon = bind_some _ _ x n.2 in
     let ty = bind_some _ _ x colon.2 in
-    let mark = bind_some _ _ x ty.2 in
-    let a = type_sound colon.0 ty.0 ty.1 in
-    let b = owned_mark_sound ty.0.1 mark.0 mark.1 in
-    let front : ts ≡ t.Name n.0.0 ∷ t.Symbol s.Colon ∷ colon.0 = name_is ts n.0 n.1 ∙ ap (λ (z : List Token). t.Name n.0.0 ∷ z) (symbol_is s.Colon n.0.1 colon.0 colon.1) in
-    let parts : ts ≡ (t.Name n.0.0 ∷ t.Symbol s.Colon ∷ (a.taken ++ b.taken)) ++ mark.0.1 = front ∙ ap (λ (z : List Token). t.Name n.0.0 ∷ t.Symbol s.Colon ∷ z) (joined_parts colon.0 a.taken ty.0.1 b.taken mark.0.1 a.parts b.parts) in
-    made SpellsParam ts (parameter_of n.0.0 ty.0.0 mark.0.0) mark.0.1 x (t.Name n.0.0 ∷ t.Symbol s.Colon ∷ (a.taken ++ b.taken)) mark.2 parts (marked n.0.0 a.taken ty.0.0 a.is b.is)
+    let a = a_marked_type_sound colon.0 ty.0 ty.1 in
+    let lead = λ (z : List Token). t.Name n.0.0 ∷ t.Symbol s.Colon ∷ z in
+    let front : ts ≡ lead colon.0 = name_is ts n.0 n.1 ∙ ap (λ (z : List Token). t.Name n.0.0 ∷ z) (symbol_is s.Colon n.0.1 colon.0 colon.1) in
+    made SpellsParam ts (parameter_of n.0.0 ty.0.0) ty.0.1 x (lead a.taken) ty.2 (front ∙ ap lead a.parts) (g.param n.0.0 a.taken ty.0.0 a.is)
 
 -- ---- targets
 
@@ -416,14 +480,8 @@ unfolding result_type
 result_type_sound ts x h =
     elim (found_some _ _ _ x h) [
       | on rest m go ↦
-          let arrow = symbol_is s.Arrow ts rest m in
-          elim (found_some _ _ _ x go) [
-            | on end n none ↦ made SpellsResult ts None end x (t.Symbol s.Arrow ∷ t.Keyword k.NoneWord ∷ []) none (arrow ∙ ap (λ (z : List Token). t.Symbol s.Arrow ∷ z) (word_is k.NoneWord rest end n)) g.none
-            | off n other ↦
-                let b = bind_some _ _ x other in
-                let a = type_sound rest b.0 b.1 in
-                made SpellsResult ts (Some b.0.0) b.0.1 x (t.Symbol s.Arrow ∷ a.taken) b.2 (arrow ∙ ap (λ (z : List Token). t.Symbol s.Arrow ∷ z) a.parts) (g.typed a.taken b.0.0 a.is)
-          ]
+          let a = an_answer_sound rest x go in
+          record { taken = t.Symbol s.Arrow ∷ a.taken; parts = symbol_is s.Arrow ts rest m ∙ ap (λ (z : List Token). t.Symbol s.Arrow ∷ z) a.parts; is = g.given a.taken x.0 a.is }
       | off m go ↦ made SpellsResult ts None ts x [] go refl g.missing
     ]
 

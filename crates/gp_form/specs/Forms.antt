@@ -1,6 +1,6 @@
 -- Which tokens spell which line form: a constructor for each rule of the grammar, in its order. The words
--- `tuple`, `owned`, `range`, `guppy`, `struct`, `compile` and `check` are no keywords: a form asks for them as
--- names with that text.
+-- `tuple`, `Callable`, `owned`, `range`, `guppy`, `struct`, `compile` and `check` are no keywords: a form asks for
+-- them as names with that text.
 use Rattle.std.specs.Prelude.{◌≡◌, ℕ, Bool, true, false, List, [], ◌∷◌, ◌++◌, flat_map, codes, Option, Some, None}
 use Rattle.gp_lex.specs.declared.token.Token.{Token}
 use Rattle.gp_lex.specs.declared.token.Token.TheVariants as t
@@ -13,7 +13,7 @@ use Rattle.gp_tree.specs.declared.place.Place.{Place}
 use Rattle.gp_tree.specs.declared.place.Targets.{Targets}
 use Rattle.gp_tree.specs.declared.place.Targets.TheVariants as to
 use Rattle.gp_tree.specs.Expression.{Expression}
-use Rattle.gp_tree.specs.TypeExpression.{TypeExpression, TypeExpressions, named_type, tuple_type, no_types, with_type}
+use Rattle.gp_tree.specs.TypeExpression.{TypeExpression, TypeExpressions, ParameterType, ParameterTypes, named_type, tuple_type, function_type, no_types, with_type, no_parameters, with_parameter, result_of}
 use Rattle.gp_tree.specs.Form.{Parameter, Form, MaybeForm, no_form, some_form}
 use Rattle.gp_tree.specs.Form as f
 use Rattle.gp_form.specs.declared.level.Level.TheVariants.{Whole}
@@ -27,10 +27,14 @@ pub data Listed {X : Type 0} (R : List Token → X → Type 0) : List Token → 
 
 -- ---- types
 
+abbrev pub marked : TypeExpression → Bool → ParameterType
+marked x is_owned = record { ty = x; owned = is_owned }
+
 mutual
   pub data SpellsType : List Token → TypeExpression → Type 0 where
     named : (n : List ℕ) → SpellsType (t.Name n ∷ []) (named_type n)
     tuple : (a : List Token) (x : TypeExpression) (xs : TypeExpressions) → SpellsTypes a (with_type x xs) → SpellsType (t.Name (codes "tuple") ∷ t.Symbol s.LeftBracket ∷ (a ++ t.Symbol s.RightBracket ∷ [])) (tuple_type (with_type x xs))
+    function : (a b : List Token) (ps : ParameterTypes) (r : Option TypeExpression) → SpellsMarkedTypes a ps → SpellsAnswer b r → SpellsType (t.Name (codes "Callable") ∷ t.Symbol s.LeftBracket ∷ t.Symbol s.LeftBracket ∷ (a ++ t.Symbol s.RightBracket ∷ t.Symbol s.Comma ∷ (b ++ t.Symbol s.RightBracket ∷ []))) (function_type ps (result_of r))
 
   -- types with commas between them, and maybe a comma after the last
   pub data SpellsTypes : List Token → TypeExpressions → Type 0 where
@@ -38,14 +42,29 @@ mutual
     last : (a : List Token) (x : TypeExpression) → SpellsType a x → SpellsTypes a (with_type x no_types)
     going_on : (a b : List Token) (x : TypeExpression) (xs : TypeExpressions) → SpellsType a x → SpellsTypes b xs → SpellsTypes (a ++ t.Symbol s.Comma ∷ b) (with_type x xs)
 
+  -- a type, and maybe the mark `@owned` behind it
+  pub data SpellsMarkedType : List Token → ParameterType → Type 0 where
+    plain : (a : List Token) (x : TypeExpression) → SpellsType a x → SpellsMarkedType a (marked x false)
+    owned : (a : List Token) (x : TypeExpression) → SpellsType a x → SpellsMarkedType (a ++ t.Symbol s.At ∷ t.Name (codes "owned") ∷ []) (marked x true)
+
+  -- the same with commas between them, and maybe a comma after the last
+  pub data SpellsMarkedTypes : List Token → ParameterTypes → Type 0 where
+    no_marked : SpellsMarkedTypes [] no_parameters
+    last_marked : (a : List Token) (p : ParameterType) → SpellsMarkedType a p → SpellsMarkedTypes a (with_parameter p.ty p.owned no_parameters)
+    more_marked : (a b : List Token) (p : ParameterType) (ps : ParameterTypes) → SpellsMarkedType a p → SpellsMarkedTypes b ps → SpellsMarkedTypes (a ++ t.Symbol s.Comma ∷ b) (with_parameter p.ty p.owned ps)
+
+  -- what a function answers: values of a type, or nothing
+  pub data SpellsAnswer : List Token → Option TypeExpression → Type 0 where
+    typed : (a : List Token) (x : TypeExpression) → SpellsType a x → SpellsAnswer a (Some x)
+    none : SpellsAnswer (t.Keyword k.NoneWord ∷ []) None
+
 -- ---- parameters
 
-abbrev pub parameter_of : List ℕ → TypeExpression → Bool → Parameter
-parameter_of n x is_owned = record { name = n; ty = x; owned = is_owned }
+abbrev pub parameter_of : List ℕ → ParameterType → Parameter
+parameter_of n p = record { name = n; ty = p.ty; owned = p.owned }
 
 pub data SpellsParam : List Token → Parameter → Type 0 where
-  plain : (n : List ℕ) (a : List Token) (x : TypeExpression) → SpellsType a x → SpellsParam (t.Name n ∷ t.Symbol s.Colon ∷ a) (parameter_of n x false)
-  owned : (n : List ℕ) (a : List Token) (x : TypeExpression) → SpellsType a x → SpellsParam (t.Name n ∷ t.Symbol s.Colon ∷ (a ++ t.Symbol s.At ∷ t.Name (codes "owned") ∷ [])) (parameter_of n x true)
+  param : (n : List ℕ) (a : List Token) (p : ParameterType) → SpellsMarkedType a p → SpellsParam (t.Name n ∷ t.Symbol s.Colon ∷ a) (parameter_of n p)
 
 -- ---- targets
 
@@ -89,11 +108,10 @@ pub data SpellsBody : List Token → MaybeForm → Type 0 where
   block : SpellsBody [] no_form
   simple : (a : List Token) (x : Form) → SpellsSimple a x → SpellsBody a (some_form x)
 
--- the type of a function's result
+-- what a function answers, behind an arrow; nothing where there is no arrow
 pub data SpellsResult : List Token → Option TypeExpression → Type 0 where
   missing : SpellsResult [] None
-  typed : (a : List Token) (x : TypeExpression) → SpellsType a x → SpellsResult (t.Symbol s.Arrow ∷ a) (Some x)
-  none : SpellsResult (t.Symbol s.Arrow ∷ t.Keyword k.NoneWord ∷ []) None
+  given : (a : List Token) (x : Option TypeExpression) → SpellsAnswer a x → SpellsResult (t.Symbol s.Arrow ∷ a) x
 
 pub data IsMaybeComma : List Token → Type 0 where
   absent : IsMaybeComma []

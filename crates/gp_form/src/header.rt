@@ -15,7 +15,7 @@ use crate::part_fault::PartFault;
 use crate::soft_keyword::past_soft_word;
 use crate::statement::{alone, simple};
 use crate::step::{past_name, past_symbol, past_word};
-use crate::written_type::type_front;
+use crate::written_type::answer_front;
 use gp_lex::{Keyword, Symbol, Token};
 use gp_tree::{Expr, LineForm, TypeExpr};
 use std::alloc::Global;
@@ -42,11 +42,7 @@ fn result_type(alloc: Global, tokens: &[Token]) -> Result<(Option<TypeExpr>, &[T
     let Some(rest) = past_symbol(tokens, Symbol::Arrow) else {
         return Ok((None, tokens));
     };
-    if let Some(rest) = past_word(rest, Keyword::NoneWord) {
-        return Ok((None, rest));
-    }
-    let (ty, rest) = type_front(alloc, rest)?;
-    Ok((Some(ty), rest))
+    answer_front(alloc, rest)
 }
 
 /// What stands behind `def`.

@@ -4,29 +4,16 @@ ghost use Rattle.std.specs.Prelude.{◌≡◌, map};
 ghost use Rattle.gp_form.specs.declared.list_end.ListEnd.TheVariants as until;
 ghost use Rattle.gp_form.specs.code.FormReading as spec;
 ghost use Rattle.gp_form.specs.code.Reading.{past_end};
-ghost use Rattle.gp_form.specs.code.Steps.{Finds, Gives};
+ghost use Rattle.gp_form.specs.code.Steps.{Gives};
 ghost use Rattle.gp_tree.specs.Form.{parameter};
 
 use crate::list_end::{ListEnd, past_end};
 use crate::part_fault::PartFault;
-use crate::soft_keyword::past_soft_word;
 use crate::step::{past_name, past_symbol};
-use crate::written_type::type_front;
+use crate::written_type::marked_type_front;
 use gp_lex::{Symbol, Token};
-use gp_tree::{Param, Params};
+use gp_tree::{FunParamExpr, Param, Params};
 use std::alloc::Global;
-
-/// Whether the mark `@owned` stands at the front, and the tokens behind it.
-#[tactic(auto, unfolding(crate::specs::code::FormReading::owned_mark))]
-fn owned_mark(tokens: &[Token]) -> Option<(bool, &[Token])>
-    ensures { Finds (λ x. (x.0, x.1.now)) result (spec.owned_mark tokens.now) }
-{
-    let Some(rest) = past_symbol(tokens, Symbol::At) else {
-        return Some((false, tokens));
-    };
-    let rest = past_soft_word(rest, "owned")?;
-    Some((true, rest))
-}
 
 /// The parameter at the front, and the tokens behind it.
 #[tactic(auto, unfolding(crate::specs::code::FormReading::param))]
@@ -39,10 +26,7 @@ fn param(alloc: Global, tokens: &[Token]) -> Result<(Param, &[Token]), PartFault
     let Some(rest) = past_symbol(rest, Symbol::Colon) else {
         return Err(PartFault::NotSpelled);
     };
-    let (ty, rest) = type_front(alloc, rest)?;
-    let Some((owned, rest)) = owned_mark(rest) else {
-        return Err(PartFault::NotSpelled);
-    };
+    let (FunParamExpr { ty, owned }, rest) = marked_type_front(alloc, rest)?;
     let name = name.copy()?;
     Ok((Param { name, ty, owned }, rest))
 }

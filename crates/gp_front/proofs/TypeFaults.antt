@@ -1,5 +1,5 @@
 -- Want of memory is no fault of types.
-use Rattle.std.proofs.Common.{◌≡◌, ◌≢◌, ℕ, Bool, true, false, ◌&&◌, not, List, [], ◌∷◌, Option, Some, None, is_some, Ok, Err, eqb, ltb, subst}
+use Rattle.std.proofs.Common.{◌≡◌, ◌≢◌, ℕ, Bool, true, false, ◌&&◌, not, List, [], ◌∷◌, Option, Some, None, is_some, Ok, Err, eqb, ltb, nat_lt, subst}
 use Rattle.gp_base.specs.declared.name.LineNo.{LineNo}
 use Rattle.gp_tree.specs.declared.place.Place.{Place}
 use Rattle.gp_tree.specs.declared.place.Targets.{Targets}
@@ -16,13 +16,13 @@ use Rattle.gp_locals.specs.Environment.{Names, Environment, type_of, put, is_wit
 use Rattle.gp_typing.specs.declared.fault.TypeFault.{TypeFault}
 use Rattle.gp_typing.specs.declared.fault.TypeFault.TheVariants as fault
 use Rattle.gp_typing.specs.Checks.{Checked, ◌>>=◌, check, found}
-use Rattle.gp_locals.specs.Callee.{Callee, callee_of, takes_tag}
+use Rattle.gp_locals.specs.Callee.{Callee, by_type, outside, takes_tag}
 use Rattle.gp_locals.specs.Tag.{is_tag}
 use Rattle.gp_types.specs.Same.{same_type}
 use Rattle.gp_types.specs.Size.{size}
 use Rattle.gp_types.specs.declared.limit.TheConstants.{TYPE_SIZE_LIMIT}
-use Rattle.gp_types.specs.Signature.{Signature}
-use Rattle.gp_typing.specs.Expressions.{Arguments, is_int, is_bool, answer_type, path_type, argument_count, parameter_count, arguments_fit, value_of, valued, place_type, called, tupled, typing, values_of, arguments_of}
+use Rattle.gp_types.specs.Signature.{Signature, function_type}
+use Rattle.gp_typing.specs.Expressions.{Arguments, is_int, is_bool, answer_type, path_type, named_type, callee_at, argument_count, parameter_count, arguments_fit, value_of, valued, place_type, called, tupled, typing, values_of, arguments_of}
 use Rattle.gp_typing.specs.Functions.{frame_of, at_start, function_typing, program_typing}
 use Rattle.gp_typing.specs.Statements.{Frame, line_of, are_as_many, tuple_parts, is_result, comes_back, assigned_at, assigned_places, assigned, statement_typing, block_typing}
 use Rattle.gp_typing.specs.Typed.{TypedExpression, TypedFunction, of_type}
@@ -89,9 +89,19 @@ value_is line (of_type (Some ty) kind) = fine
 valued_is : (line : LineNo) (e : Checked TypedExpression) → IsOfTypes e → IsOfTypes (valued line e)
 valued_is line e h = bound e (value_of line) h (value_is line)
 
-place_is : (names : Names) (e : Environment) (line : LineNo) (place : Place) → IsOfTypes (place_type names e line place)
-place_is names e line place = looked_up {A = Option Ty} (type_of names e place.name) _ _ (unknown line)
-    (λ usable. looked_up {A = Ty} usable _ _ (not_usable line) (λ ty. found_is (path_type (Some ty) place.fields) _ (unknown line)))
+name_is : (line : LineNo) (usable : Option (Option Ty)) (its : Option Signature) → IsOfTypes (named_type line usable its)
+name_is line (Some usable) its = found_is usable _ (not_usable line)
+name_is line None its =
+    looked_up {A = Signature} its _ _ (unknown line) (λ s. checked (not (nat_lt TYPE_SIZE_LIMIT (size (function_type s)))) _ _ (too_big line) fine)
+
+place_is : (known : Known) (names : Names) (e : Environment) (line : LineNo) (place : Place) → IsOfTypes (place_type known names e line place)
+place_is known names e line place =
+    bound _ _ (name_is line (type_of names e place.name) (known.signature_of place.name)) (λ ty. found_is (path_type (Some ty) place.fields) _ (unknown line))
+
+callee_is : (line : LineNo) (usable : Option (Option Ty)) (callee : Option Callee) → IsOfTypes (callee_at line usable callee)
+callee_is line (Some (Some ty)) callee = found_is (by_type ty) _ (mismatch line)
+callee_is line (Some None) callee = faulty (not_usable line)
+callee_is line None callee = found_is callee _ (unknown line)
 
 called_is : (line : LineNo) (name : List ℕ) (callee : Callee) (arguments : Arguments) → IsOfTypes (called line name callee arguments)
 called_is line name callee arguments =
@@ -103,7 +113,7 @@ mutual
   typing_is known names e line (expr.number n) = fine
   typing_is known names e line (expr.boolean b) = fine
   typing_is known names e line (expr.text t) = faulty (mismatch line)
-  typing_is known names e line (expr.place p) = bound _ _ (place_is names e line p) (λ ty. fine)
+  typing_is known names e line (expr.place p) = bound _ _ (place_is known names e line p) (λ ty. fine)
   typing_is known names e line (expr.minus a) =
       bound _ _ (valued_is line _ (typing_is known names e line a)) (λ x. checked (is_int x.ty) _ _ (mismatch line) fine)
   typing_is known names e line (expr.negation a) =
@@ -123,7 +133,7 @@ mutual
       (λ x. bound _ _ (valued_is line _ (typing_is known names e line b)) (λ y. checked (is_bool test.ty && same_type x.ty y.ty) _ _ (mismatch line) fine)))
   typing_is known names e line (expr.tuple es) = bound _ _ (values_are known names e line es) (λ values. checked (not (ltb TYPE_SIZE_LIMIT (size (types.Tuple values.types)))) _ _ (too_big line) fine)
   typing_is known names e line (expr.call name es) =
-      looked_up {A = Callee} (callee_of known names name) _ _ (unknown line) (λ callee. bound _ _ (arguments_are known names e line (takes_tag callee) es) (λ arguments. called_is line name callee arguments))
+      bound _ _ (callee_is line (type_of names e name) (outside known name)) (λ callee. bound _ _ (arguments_are known names e line (takes_tag callee) es) (λ arguments. called_is line name callee arguments))
 
   values_are : (known : Known) (names : Names) (e : Environment) (line : LineNo) (es : Expressions) → IsOfTypes (values_of known names e line es)
   values_are known names e line expr.no_expressions = fine
@@ -162,27 +172,27 @@ mutual
 
 -- ---- statements
 
-assigned_at_is : (frame : Frame) (e : Environment) (line : LineNo) (fields : List (List ℕ)) (place : Place) (ty : Ty) → IsOfTypes (assigned_at frame e line fields place ty)
-assigned_at_is frame e line [] place ty = checked (not (frame.is_borrowed place.name)) _ _ (borrowed line) fine
-assigned_at_is frame e line (field ∷ fields) place ty =
-    bound _ _ (place_is frame.names e line place) (λ its. checked (same_type its ty) _ _ (mismatch line) fine)
+assigned_at_is : (known : Known) (frame : Frame) (e : Environment) (line : LineNo) (fields : List (List ℕ)) (place : Place) (ty : Ty) → IsOfTypes (assigned_at known frame e line fields place ty)
+assigned_at_is known frame e line [] place ty = checked (not (frame.is_borrowed place.name)) _ _ (borrowed line) fine
+assigned_at_is known frame e line (field ∷ fields) place ty =
+    bound _ _ (place_is known frame.names e line place) (λ its. checked (same_type its ty) _ _ (mismatch line) fine)
 
-assigned_places_is : (frame : Frame) (e : Environment) (line : LineNo) (places : List Place) (tys : Tys) → IsOfTypes (assigned_places frame e line places tys)
-assigned_places_is frame e line [] types.none = fine
-assigned_places_is frame e line (place ∷ places) (types.more ty tys) =
-    bound _ _ (assigned_at_is frame e line place.fields place ty) (λ next. assigned_places_is frame next line places tys)
-assigned_places_is frame e line [] (types.more ty tys) = faulty (wrong_count line)
-assigned_places_is frame e line (place ∷ places) types.none = faulty (wrong_count line)
+assigned_places_is : (known : Known) (frame : Frame) (e : Environment) (line : LineNo) (places : List Place) (tys : Tys) → IsOfTypes (assigned_places known frame e line places tys)
+assigned_places_is known frame e line [] types.none = fine
+assigned_places_is known frame e line (place ∷ places) (types.more ty tys) =
+    bound _ _ (assigned_at_is known frame e line place.fields place ty) (λ next. assigned_places_is known frame next line places tys)
+assigned_places_is known frame e line [] (types.more ty tys) = faulty (wrong_count line)
+assigned_places_is known frame e line (place ∷ places) types.none = faulty (wrong_count line)
 
-assigned_is : (frame : Frame) (e : Environment) (line : LineNo) (ts : Targets) (ty : Ty) → IsOfTypes (assigned frame e line ts ty)
-assigned_is frame e line (targets.One place) ty = assigned_at_is frame e line place.fields place ty
-assigned_is frame e line (targets.Pattern places) ty =
-    looked_up {A = Tys} (tuple_parts ty) _ _ (mismatch line) (λ tys. checked (are_as_many places tys) _ _ (wrong_count line) (assigned_places_is frame e line places tys))
+assigned_is : (known : Known) (frame : Frame) (e : Environment) (line : LineNo) (ts : Targets) (ty : Ty) → IsOfTypes (assigned known frame e line ts ty)
+assigned_is known frame e line (targets.One place) ty = assigned_at_is known frame e line place.fields place ty
+assigned_is known frame e line (targets.Pattern places) ty =
+    looked_up {A = Tys} (tuple_parts ty) _ _ (mismatch line) (λ tys. checked (are_as_many places tys) _ _ (wrong_count line) (assigned_places_is known frame e line places tys))
 
 mutual
   statement_is : (known : Known) (frame : Frame) (e : Environment) (s : Statement) → IsOfTypes (statement_typing known frame e s)
   statement_is known frame e (stmt.assign line ts value) =
-      bound _ _ (valued_is line _ (typing_is known frame.names e line value)) (λ v. bound _ _ (assigned_is frame e line ts v.ty) (λ next. fine))
+      bound _ _ (valued_is line _ (typing_is known frame.names e line value)) (λ v. bound _ _ (assigned_is known frame e line ts v.ty) (λ next. fine))
   statement_is known frame e (stmt.annotated line name written value) =
       bound _ _ (valued_is line _ (typing_is known frame.names e line value))
       (λ v. looked_up {A = Ty} (known.annotated_at line) _ _ (mismatch line) (λ ty. checked (same_type ty v.ty) _ _ (mismatch line) (checked (not (frame.is_borrowed name)) _ _ (borrowed line) fine)))

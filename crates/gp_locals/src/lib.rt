@@ -12,7 +12,7 @@ mod tag;
 mod usable;
 mod usable_names;
 
-pub use callee::{Callee, find_callee, takes_tag};
+pub use callee::{Callee, callee_of_type, find_callee, takes_tag};
 pub use environment::{Environment, Found};
 pub use limit::TOTAL_SIZE_LIMIT;
 pub use locals::{Locals, locals_of};

@@ -19,9 +19,9 @@ use Rattle.gp_types.specs.declared.builtins.Builtin.TheVariants as built_in
 use Rattle.gp_locals.specs.Environment.{Names}
 use Rattle.gp_scope.specs.Known.{Known}
 use Rattle.gp_types.specs.Signature.{Parameter}
-use Rattle.gp_locals.specs.Callee.{Callee, Written, Made, BuiltIn, callee_of}
-use Rattle.gp_meaning.specs.Calls.{Called, Functions, called, performed, reported, gives, put_back, put_back_each, tag_of, qubit_at, number_at}
-use Rattle.gp_meaning.specs.Meaning.{Frame, entered, Completion, Normal, Break, Continue, Return, Rest, Routine, Routines, value, needed, truth, looked_up, evaluated, evaluated_each, evaluated_behind, then_normal, on_normal, after_body, looping, counting, executed, executed_each, ends_by, returns, ran_named, finals_of, level}
+use Rattle.gp_locals.specs.Callee.{Callee, Function, Made, BuiltIn}
+use Rattle.gp_meaning.specs.Calls.{Called, Functions, resolved, called, performed, reported, gives, put_back, put_back_each, tag_of, qubit_at, number_at}
+use Rattle.gp_meaning.specs.Meaning.{Frame, entered, Completion, Normal, Break, Continue, Return, Rest, Routine, Routines, value, needed, truth, looked_up, callee, evaluated, evaluated_each, evaluated_behind, then_normal, on_normal, after_body, looping, counting, executed, executed_each, ends_by, returns, ran_named, finals_of, level}
 use Rattle.gp_meaning.specs.Operators.{Operated, operated, minus_of, or_stop}
 use Rattle.gp_meaning.specs.State as state
 use Rattle.gp_meaning.specs.State.{State, Variables, on_world, with_variables, without_variables, begun_with, assign, assign_place, assign_each, assign_parts, assign_name, value_at}
@@ -52,6 +52,7 @@ world_reported (Some t) (Some (values.boolean b)) = record { relates = λ w. IsS
 world_reported (Some t) (Some (values.qubit q)) = stop_relates IsCleanBetween clean_step Stuck
 world_reported (Some t) (Some (values.tuple q)) = stop_relates IsCleanBetween clean_step Stuck
 world_reported (Some t) (Some (values.structure q)) = stop_relates IsCleanBetween clean_step Stuck
+world_reported (Some t) (Some (values.function q)) = stop_relates IsCleanBetween clean_step Stuck
 
 performed_clean : (b : Builtin) (tag : Option (List ℕ)) (vs : List Value) → W (performed b tag vs)
 performed_clean built_in.Qubit tag vs = world_bind _ _ (allocate_relates IsCleanBetween clean_step) (λ q. world_gives (Some (values.qubit q)) [])
@@ -160,7 +161,7 @@ module _ (F : Frame) (functions : Functions) (ok : (name : List ℕ) (vs : List 
   run a = evaluated F functions a
 
   call_clean : (k : Callee) (name : List ℕ) (tag : Option (List ℕ)) (vs : List Value) → W (called functions k name tag vs)
-  call_clean (Written s) name tag vs = world_bind take_turn _ world_turn (λ _. ok name vs)
+  call_clean (Function ps r) name tag vs = world_bind take_turn _ world_turn (λ _. ok name vs)
   call_clean (Made t) name tag vs = ret_relates IsCleanBetween clean_step _
   call_clean (BuiltIn b) name tag vs = performed_clean b tag vs
 
@@ -181,12 +182,15 @@ module _ (F : Frame) (functions : Functions) (ok : (name : List ℕ) (vs : List 
   read_clean : (o : Option Value) → C (looked_up o)
   read_clean o = bind (or_stuck o) value (find o) (λ v. same (Some v))
 
+  callee_clean : (name : List ℕ) → C (callee F name)
+  callee_clean name = record { clean = λ s. (find (resolved F.known F.names s.variables name)).clean s }
+
   mutual
     clean_expression : (a : Expression) → C (run a)
     clean_expression (expr.number n) = same _
     clean_expression (expr.boolean n) = same _
     clean_expression (expr.text n) = stops Stuck
-    clean_expression (expr.place p) = record { clean = λ s. (read_clean (value_at F.names s.variables p)).clean s }
+    clean_expression (expr.place p) = record { clean = λ s. (read_clean (value_at F.known F.names s.variables p)).clean s }
     clean_expression (expr.minus a) = bind (needed (run a)) _ (need (run a) (clean_expression a)) (λ x. bind (or_stuck (minus_of x)) value (find _) (λ v. same (Some v)))
     clean_expression (expr.negation a) = bind (truth (run a)) _ (test (run a) (clean_expression a)) (λ b. same _)
     clean_expression (expr.binary o a b) =
@@ -197,10 +201,10 @@ module _ (F : Frame) (functions : Functions) (ok : (name : List ℕ) (vs : List 
         bind (truth (run c)) _ (test (run c) (clean_expression c)) (λ t. either_way t _ _ (bind (needed (run a)) value (need (run a) (clean_expression a)) (λ v. same (Some v))) (bind (needed (run b)) value (need (run b) (clean_expression b)) (λ v. same (Some v))))
     clean_expression (expr.tuple es) = bind (evaluated_each F functions es) _ (each_clean es (clean_all es)) (λ vs. same _)
     clean_expression (expr.call name es) =
-        bind (or_stuck (callee_of F.known F.names name)) _ (find _)
-        (λ k. bind (or_stuck (tag_of k es)) _ (find _)
+        bind (callee F name) _ (callee_clean name)
+        (λ k. bind (or_stuck (tag_of k.callee es)) _ (find _)
         (λ tag. bind (evaluated_behind F functions tag es) _ (behind_clean tag es (clean_all es))
-        (λ vs. bind (on_world (called functions k name tag vs)) _ (world_run _ (call_clean k name tag vs))
+        (λ vs. bind (on_world (called functions k.callee k.name tag vs)) _ (world_run _ (call_clean k.callee k.name tag vs))
         (λ c. bind (put_back_each F.names es c.finals) _ (backs F.names es c.finals) (λ _. same c.answer)))))
 
     clean_all : (es : Expressions) → AllClean es

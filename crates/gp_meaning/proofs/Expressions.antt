@@ -3,7 +3,7 @@ use Rattle.std.proofs.Common.{◌≡◌, ℕ, ◌<◌, List, [], ◌∷◌, Opti
 use Rattle.gp_base.specs.declared.event.GateName.TheVariants as gate
 use Rattle.gp_base.specs.Run.{Run, Stuck, or_stuck}
 use Rattle.gp_base.specs.World.{World, allocate, free, measure, measure_free, reset, apply_gate, apply_gate_on_two, apply_gate_on_three, rotate}
-use Rattle.gp_locals.specs.Callee.{Callee, Written, Made, BuiltIn, callee_of}
+use Rattle.gp_locals.specs.Callee.{Callee, Function, Made, BuiltIn}
 use Rattle.gp_locals.specs.Environment.{Names}
 use Rattle.gp_tree.specs.Expression as expr
 use Rattle.gp_tree.specs.Expression.{Expression, Expressions, no_expressions, with_expression}
@@ -13,8 +13,8 @@ use Rattle.gp_types.specs.declared.builtins.Builtin.TheVariants as built_in
 use Rattle.gp_meaning.specs.Value.{Value, number, boolean, qubit, boolean_of}
 use Rattle.gp_meaning.specs.State.{State, on_world, placed, variable, value_at, assign_name, assign_place}
 use Rattle.gp_meaning.specs.Operators.{Operated, operated, minus_of, or_stop}
-use Rattle.gp_meaning.specs.Calls.{Functions, gives, performed, reported, qubit_at, number_at, called, tag_of, put_back, put_back_each}
-use Rattle.gp_meaning.specs.Meaning.{Frame, value, needed, truth, looked_up, evaluated, evaluated_each, evaluated_behind}
+use Rattle.gp_meaning.specs.Calls.{Functions, gives, performed, reported, qubit_at, number_at, resolved, called, tag_of, put_back, put_back_each}
+use Rattle.gp_meaning.specs.Meaning.{Frame, value, needed, truth, looked_up, callee, evaluated, evaluated_each, evaluated_behind}
 use Rattle.gp_meaning.proofs.Levels.{Agree, agree_bind, agree_kept, agree_ret, agree_stop, agree_found, agree_if, turns, turns_left, Falls, bind_falls, found_falls, free_falls, measure_falls, measure_free_falls, reset_falls, gate_falls, gate_on_two_falls, gate_on_three_falls, rotate_falls, turn_then, agree_on_world}
 
 -- functions that are the same where fewer turns are left, and never gain one
@@ -47,7 +47,7 @@ performed_falls built_in.Result tag vs = reported_falls tag _
 
 pub called_agree : (t : ℕ) (f f' : Functions) → AgreeFunctions t f f' → (callee : Callee) (name : List ℕ) (tag : Option (List ℕ)) (vs : List Value)
     → Agree turns t (called f callee name tag vs) (called f' callee name tag vs)
-called_agree t f f' A (Written s) name tag vs = turn_then t (f name vs) (f' name vs) (A.falls name vs) (A.same name vs)
+called_agree t f f' A (Function ps r) name tag vs = turn_then t (f name vs) (f' name vs) (A.falls name vs) (A.same name vs)
 called_agree t f f' A (Made ty) name tag vs = agree_ret turns t _
 called_agree t f f' A (BuiltIn b) name tag vs = agree_kept turns t (performed b tag vs) (performed_falls b tag vs)
 
@@ -87,12 +87,15 @@ module _ (t : ℕ) (F : Frame) (f f' : Functions) (A : AgreeFunctions t f f') wh
   read_agree : (o : Option Value) → Agree turns_left t (looked_up o) (looked_up o)
   read_agree o = agree_bind turns_left t (or_stuck o) (or_stuck o) _ _ (agree_found turns_left t o) (λ v. value_agree v)
 
+  callee_agree : (name : List ℕ) → Agree turns_left t (callee F name) (callee F name)
+  callee_agree name = agree_kept turns_left t (callee F name) (λ s. (agree_found turns_left t (resolved F.known F.names s.variables name)).falls s)
+
   mutual
     pub evaluated_agree : (e : Expression) → Agree turns_left t (evaluated F f e) (evaluated F f' e)
     evaluated_agree (expr.number n) = value_agree (number n)
     evaluated_agree (expr.boolean b) = value_agree (boolean b)
     evaluated_agree (expr.text w) = agree_stop turns_left t Stuck
-    evaluated_agree (expr.place p) = agree_kept turns_left t (evaluated F f (expr.place p)) (λ s. (read_agree (value_at F.names s.variables p)).falls s)
+    evaluated_agree (expr.place p) = agree_kept turns_left t (evaluated F f (expr.place p)) (λ s. (read_agree (value_at F.known F.names s.variables p)).falls s)
     evaluated_agree (expr.minus a) =
         agree_bind turns_left t (needed (evaluated F f a)) (needed (evaluated F f' a)) _ _ (needed_agree _ _ (evaluated_agree a))
         (λ x. agree_bind turns_left t (or_stuck (minus_of x)) (or_stuck (minus_of x)) _ _ (agree_found turns_left t (minus_of x)) value_agree)
@@ -118,10 +121,10 @@ module _ (t : ℕ) (F : Frame) (f f' : Functions) (A : AgreeFunctions t f f') wh
     evaluated_agree (expr.tuple es) =
         agree_bind turns_left t (evaluated_each F f es) (evaluated_each F f' es) _ _ (each_agree es) (λ vs. value_agree _)
     evaluated_agree (expr.call name es) =
-        agree_bind turns_left t (or_stuck (callee_of F.known F.names name)) (or_stuck (callee_of F.known F.names name)) _ _ (agree_found turns_left t _)
-        (λ callee. agree_bind turns_left t (or_stuck (tag_of callee es)) (or_stuck (tag_of callee es)) _ _ (agree_found turns_left t _)
+        agree_bind turns_left t (callee F name) (callee F name) _ _ (callee_agree name)
+        (λ k. agree_bind turns_left t (or_stuck (tag_of k.callee es)) (or_stuck (tag_of k.callee es)) _ _ (agree_found turns_left t _)
         (λ tag. agree_bind turns_left t (evaluated_behind F f tag es) (evaluated_behind F f' tag es) _ _ (behind_agree tag es)
-        (λ vs. agree_bind turns_left t (on_world (called f callee name tag vs)) (on_world (called f' callee name tag vs)) _ _ (agree_on_world t _ _ (called_agree t f f' A callee name tag vs))
+        (λ vs. agree_bind turns_left t (on_world (called f k.callee k.name tag vs)) (on_world (called f' k.callee k.name tag vs)) _ _ (agree_on_world t _ _ (called_agree t f f' A k.callee k.name tag vs))
         (λ c. agree_bind turns_left t (put_back_each F.names es c.finals) (put_back_each F.names es c.finals) _ _ (backs_agree t F.names es c.finals)
         (λ _. agree_ret turns_left t c.answer)))))
 

@@ -1,21 +1,22 @@
 -- What calls take and give.
-use Rattle.std.specs.Prelude.{ℕ, suc, ℤ, Bool, true, false, List, [], ◌∷◌, Option, Some, None, option_and_then, if◌then◌else◌, ◌==◌, length, map, slice_get}
+use Rattle.std.specs.Prelude.{ℕ, suc, ℤ, Bool, true, false, List, [], ◌∷◌, Option, Some, None, option_map, option_and_then, slice_index_or, if◌then◌else◌, ◌==◌, length, map, slice_get}
 use Rattle.gp_base.specs.declared.event.Event.TheVariants as event
 use Rattle.gp_base.specs.declared.event.GateName.TheVariants as gate
 use Rattle.gp_base.specs.Run.{Run, Stuck, stop, ret, ◌>>=◌, or_stuck}
 use Rattle.gp_base.specs.World.{World, allocate, free, apply_gate, apply_gate_on_two, apply_gate_on_three, rotate, reset, measure, measure_free, does, take_turn}
-use Rattle.gp_locals.specs.Callee.{Callee, Written, Made, BuiltIn, takes_tag}
+use Rattle.gp_locals.specs.Callee.{Callee, Function, Made, BuiltIn, by_signature, outside, takes_tag}
 use Rattle.gp_locals.specs.Tag.{is_tag}
-use Rattle.gp_locals.specs.Environment.{Names}
+use Rattle.gp_locals.specs.Environment.{Names, place_among}
+use Rattle.gp_scope.specs.Known.{Known}
 use Rattle.gp_tree.specs.Expression as expr
 use Rattle.gp_tree.specs.Expression.{Expression, Expressions, no_expressions, with_expression}
 use Rattle.gp_types.specs.Types as types
-use Rattle.gp_types.specs.Types.{Ty, Fields}
+use Rattle.gp_types.specs.Types.{Ty, Fields, FunParams}
 use Rattle.gp_types.specs.Builtins.{parameters_of}
 use Rattle.gp_types.specs.declared.builtins.Builtin.{Builtin}
 use Rattle.gp_types.specs.declared.builtins.Builtin.TheVariants as built_in
-use Rattle.gp_meaning.specs.Value.{Value, number, boolean, qubit, number_of, qubit_of, structure, FieldValues, no_fields, with_field}
-use Rattle.gp_meaning.specs.State.{State, assign_place}
+use Rattle.gp_meaning.specs.Value.{Value, number, boolean, qubit, function, number_of, qubit_of, structure, FieldValues, no_fields, with_field}
+use Rattle.gp_meaning.specs.State.{State, Variables, assign_place}
 
 -- What a call gives: its answer, where it has one, and for each parameter its final value, where it is borrowed. Behind
 -- the last borrowed parameter there need be nothing.
@@ -26,6 +27,26 @@ pub record Called : Type 0 where
 -- an answer, and qubits that come back
 abbrev pub gives : {S : Type 0} → Option Value → (qubits : List ℕ) → Run S Called
 gives answer qubits = ret (record { answer = answer; finals = map (λ q. Some (qubit q)) qubits })
+
+-- ---- what a call calls
+
+-- the name that the program has for what is called, and what that is
+pub record Resolved : Type 0 where
+  pub name : List ℕ
+  pub callee : Callee
+
+-- the function of the program that a value is the name of
+abbrev pub resolved_value : Known → Value → Option Resolved
+resolved_value known (function name) = option_map (λ s. record { name = name; callee = by_signature s }) (known.signature_of name)
+resolved_value known _ = None
+
+abbrev pub resolved_at : Known → Variables → Option ℕ → List ℕ → Option Resolved
+resolved_at known vs (Some i) name = option_and_then (resolved_value known) (slice_index_or vs i None)
+resolved_at known vs None name = option_map (λ callee. record { name = name; callee = callee }) (outside known name)
+
+-- What a call of a name calls. A name of the function that runs is called by its value, and hides what it means outside.
+abbrev pub resolved : Known → Names → Variables → List ℕ → Option Resolved
+resolved known names vs name = resolved_at known vs (place_among names name) name
 
 -- ---- arguments
 
@@ -41,9 +62,13 @@ abbrev pub part_count : Ty → ℕ
 part_count (types.Struct name fields) = field_count fields
 part_count _ = 0
 
+abbrev pub param_count : FunParams → ℕ
+param_count types.no_params = 0
+param_count (types.param ty mode ps) = suc (param_count ps)
+
 -- how many values a call takes, a tag aside
 abbrev pub value_count : Callee → ℕ
-value_count (Written s) = length s.params
+value_count (Function ps r) = param_count ps
 value_count (Made ty) = part_count ty
 value_count (BuiltIn built_in.Result) = 1
 value_count (BuiltIn b) = length (parameters_of b)
@@ -117,7 +142,7 @@ Functions = List ℕ → List Value → Run World Called
 
 -- A call with its tag and its values. That of a written function takes a turn.
 abbrev pub called : Functions → Callee → List ℕ → Option (List ℕ) → List Value → Run World Called
-called functions (Written s) name tag vs = take_turn >>= λ _. functions name vs
+called functions (Function ps r) name tag vs = take_turn >>= λ _. functions name vs
 called functions (Made ty) name tag vs = gives (Some (structure (struct_fields ty vs))) []
 called functions (BuiltIn b) name tag vs = performed b tag vs
 

@@ -166,6 +166,18 @@ module _ (line : LineNo) where
   leaving_program =
       imported (codes "guppylang.std.builtins") (codes "result" ∷ []) ∷ first ∷ main (report (codes "n") (expr.call (codes "first") no_expressions) ∷ₛ end) ∷ []
 
+  -- f = first, which is called by that name
+  abbrev pub naming_program : List ProgramItem
+  naming_program =
+      imported (codes "guppylang.std.builtins") (codes "result" ∷ [])
+      ∷ first
+      ∷ main (assign (codes "f") (name (codes "first")) ∷ₛ report (codes "n") (expr.call (codes "f") no_expressions) ∷ₛ end)
+      ∷ []
+
+  -- first = 1, which hides the function
+  abbrev pub hiding_program : List ProgramItem
+  hiding_program = first ∷ main (assign (codes "first") (expr.number (pos 1)) ∷ₛ do_call (codes "first") no_expressions ∷ₛ end) ∷ []
+
   -- n = 1 + True
   abbrev pub stuck_program : List ProgramItem
   stuck_program = main (assign (codes "n") (expr.binary op.Add (expr.number (pos 1)) (expr.boolean true)) ∷ₛ end) ∷ []
@@ -196,3 +208,8 @@ pub record SamplesRun : Type 0 where
       ≡ record { stopped = None; events = event.ResultInt (codes "i") (pos 1) ∷ event.ResultInt (codes "n") (pos 7) ∷ [] }
   pub leaves_loops_too_late : (line : LineNo) → ended (run_of (leaving_program line) (codes "main") [] (start 2 []))
       ≡ record { stopped = Some TurnsUsed; events = event.ResultInt (codes "i") (pos 1) ∷ [] }
+  -- a call by a value takes a turn as one by the function's name does
+  pub calls_by_value : (line : LineNo) → ended (run_of (naming_program line) (codes "main") [] (start 3 []))
+      ≡ record { stopped = None; events = event.ResultInt (codes "i") (pos 1) ∷ event.ResultInt (codes "n") (pos 7) ∷ [] }
+  pub calls_by_value_without_a_turn : (line : LineNo) → ended (run_of (naming_program line) (codes "main") [] (start 0 [])) ≡ record { stopped = Some TurnsUsed; events = [] }
+  pub calls_no_number : (line : LineNo) → ended (run_of (hiding_program line) (codes "main") [] (start 9 [])) ≡ record { stopped = Some Stuck; events = [] }

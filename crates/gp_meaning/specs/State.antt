@@ -1,12 +1,13 @@
 -- The state of a function's run: the values of its names, and the world.
-use Rattle.std.specs.Prelude.{ℕ, List, [], ◌∷◌, length, ◌==◌, if◌then◌else◌, map, Option, Some, None, slice_index_or, slice_set}
+use Rattle.std.specs.Prelude.{ℕ, List, [], ◌∷◌, length, ◌==◌, if◌then◌else◌, map, Option, Some, None, option_map, slice_index_or, slice_set}
 use Rattle.gp_base.specs.Run.{Out, Run, Returned, Stopped, Stuck, stop, ret, ◌>>=◌, or_stuck}
 use Rattle.gp_base.specs.World.{World}
 use Rattle.gp_locals.specs.Environment.{Names, place_among}
 use Rattle.gp_tree.specs.declared.place.Place.{Place}
 use Rattle.gp_tree.specs.declared.place.Targets.{Targets}
 use Rattle.gp_tree.specs.declared.place.Targets.TheVariants as targets
-use Rattle.gp_meaning.specs.Value.{Value, at_path, with_part, parts_of}
+use Rattle.gp_scope.specs.Known.{Known}
+use Rattle.gp_meaning.specs.Value.{Value, function, at_path, with_part, parts_of}
 
 -- the value of each name of the function, where it has one, in the order of the names
 abbrev pub Variables : Type 0
@@ -61,9 +62,21 @@ set_each names vs _ _ = vs
 
 -- ---- places
 
+-- a function of the program is the value of its name
+abbrev pub function_value : Known → List ℕ → Option Value
+function_value known name = option_map (λ s. function name) (known.signature_of name)
+
+-- the value of a name, which is that of a function of the program where it is no name of the function that runs
+abbrev pub named_at : Variables → Option ℕ → Option Value → Option Value
+named_at vs (Some i) outside = slice_index_or vs i None
+named_at vs None outside = outside
+
+abbrev pub named_value : Known → Names → Variables → List ℕ → Option Value
+named_value known names vs name = named_at vs (place_among names name) (function_value known name)
+
 -- the value at a place
-abbrev pub value_at : Names → Variables → Place → Option Value
-value_at names vs place = at_path (variable names vs place.name) place.fields
+abbrev pub value_at : Known → Names → Variables → Place → Option Value
+value_at known names vs place = at_path (named_value known names vs place.name) place.fields
 
 abbrev pub changed : Option Value → List (List ℕ) → Value → Option Value
 changed None path new = None

@@ -10,6 +10,8 @@ mutual
     tuple : Values → Value
     -- the value of a struct
     structure : FieldValues → Value
+    -- a function, by its name
+    function : List ℕ → Value
 
   pub data Values : Type 0 where
     no_values : Values

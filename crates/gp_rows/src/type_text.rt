@@ -2,11 +2,12 @@
 
 use gp_front::CheckedText;
 use gp_tree::Item;
-use gp_types::{Mode, SigParam, Signature, Ty, leaf_count, size};
+use gp_types::{FunParam, Mode, SigParam, Signature, Ty, leaf_count, size};
 use gp_typing::{TypedFunction, TypedStmt};
 use std::alloc::{AllocError, Global};
 
 /// A type as a source text writes it; a struct by its name.
+#[cycle(told)]
 pub fn told_type(alloc: Global, ty: &Ty) -> Result<String, AllocError> {
     match ty {
         Ty::Int => format!(in alloc; "int"),
@@ -23,7 +24,31 @@ pub fn told_type(alloc: Global, ty: &Ty) -> Result<String, AllocError> {
             }
             format!(in alloc; "tuple[{told}]")
         }
+        Ty::Function(params, answer) => {
+            let params = told_params(alloc, params)?;
+            let answer = match answer {
+                Some(ty) => told_type(alloc, ty)?,
+                None => format!(in alloc; "None")?,
+            };
+            format!(in alloc; "Callable[[{params}], {answer}]")
+        }
     }
+}
+
+// Parameters of a function type, as a source text writes them.
+#[cycle(told)]
+fn told_params(alloc: Global, params: &[FunParam]) -> Result<String, AllocError> {
+    let mut told = String::new(alloc);
+    for param in params {
+        if !told.is_empty() {
+            told.push_str(", ")?;
+        }
+        told.push_str(told_type(alloc, &param.ty)?.as_str())?;
+        if param.mode == Mode::Owned {
+            told.push_str(" @owned")?;
+        }
+    }
+    Ok(told)
 }
 
 /// The fields of a struct type, and its size and the number of its leaves.

@@ -3,15 +3,15 @@ use Rattle.std.proofs.Common.{◌≡◌, ℕ, zero, suc, ◌+◌, ◌<◌, ◌�
 use Rattle.std.proofs.lemmas.Slice.Eq.{bytes_eq-Decides}
 use Rattle.std.proofs.lemmas.Bool.Decides.{nat_tests}
 use Rattle.gp_tree.specs.Program.{ProgramItem, FieldDefinition, StructDefinition, import_item, struct_item, function_item}
-use Rattle.gp_tree.specs.TypeExpression.{TypeExpression, TypeExpressions, named_type, tuple_type, no_types, with_type}
+use Rattle.gp_tree.specs.TypeExpression.{TypeExpression, TypeExpressions, ParameterTypes, ResultType, named_type, tuple_type, function_type, no_types, with_type, no_parameters, with_parameter, no_result, with_result}
 use Rattle.gp_types.specs.Types as types
 use Rattle.gp_types.specs.Size.{size}
 use Rattle.gp_scope.specs.Checks.{is_among}
 use Rattle.gp_scope.specs.Definitions.{struct_named, structs_in}
-use Rattle.gp_scope.specs.Cycles.{mentions, some_mentions, fields_mention, holds, IsWay, Reaches, IsOnCycle}
+use Rattle.gp_scope.specs.Cycles.{mentions, some_mentions, params_mention, answer_mentions, fields_mention, holds, IsWay, Reaches, IsOnCycle}
 use Rattle.gp_scope.specs.Spelled.{spelled_by, spelled, fields_spelled_by, opened, StructsHaveFields}
 use Rattle.gp_scope.specs.code.Levels.{size_by, level_size}
-use Rattle.gp_scope.specs.code.EachName.{each_name, each_name_of, each_field_name}
+use Rattle.gp_scope.specs.code.EachName.{each_name, each_name_of, each_name_taken, each_name_answered, each_field_name}
 use Rattle.gp_scope.proofs.Levels.{and_left, and_right, and_true, closed, closed-none, closed-zero, closed-suc, opened-suc, opened-stays, same_type_by, same_fields_by, type_below, small_type, level-below, level-small}
 
 or_cases : (a b : Bool) → (a || b) ≡ true → (a ≡ false → b ≡ true)
@@ -26,6 +26,11 @@ mutual
   mentioned_passes : (test : List ℕ → Bool) (x : List ℕ) (t : TypeExpression) → each_name test t ≡ true → mentions t x ≡ true → test x ≡ true
   mentioned_passes test x (named_type y) h m = subst (λ z. test z ≡ true) (sym ((bytes_eq-Decides x y).0 m)) h
   mentioned_passes test x (tuple_type ts) h m = some_mentioned_passes test x ts h m
+  mentioned_passes test x (function_type ps r) h m =
+      elim (params_mention ps x) as (λ b. params_mention ps x ≡ b → test x ≡ true) [
+        | true ↦ λ e. param_mentioned_passes test x ps (and_left (each_name_taken test ps) _ h) e
+        | false ↦ λ e. answer_mentioned_passes test x r (and_right (each_name_taken test ps) _ h) (or_cases (params_mention ps x) _ m e)
+      ] refl
 
   some_mentioned_passes : (test : List ℕ → Bool) (x : List ℕ) (ts : TypeExpressions) → each_name_of test ts ≡ true → some_mentions ts x ≡ true → test x ≡ true
   some_mentioned_passes test x no_types h m = absurd (true≢false (sym m))
@@ -34,6 +39,18 @@ mutual
         | true ↦ λ e. mentioned_passes test x t (and_left (each_name test t) _ h) e
         | false ↦ λ e. some_mentioned_passes test x ts (and_right (each_name test t) _ h) (or_cases (mentions t x) _ m e)
       ] refl
+
+  param_mentioned_passes : (test : List ℕ → Bool) (x : List ℕ) (ps : ParameterTypes) → each_name_taken test ps ≡ true → params_mention ps x ≡ true → test x ≡ true
+  param_mentioned_passes test x no_parameters h m = absurd (true≢false (sym m))
+  param_mentioned_passes test x (with_parameter t owned ps) h m =
+      elim (mentions t x) as (λ b. mentions t x ≡ b → test x ≡ true) [
+        | true ↦ λ e. mentioned_passes test x t (and_left (each_name test t) _ h) e
+        | false ↦ λ e. param_mentioned_passes test x ps (and_right (each_name test t) _ h) (or_cases (mentions t x) _ m e)
+      ] refl
+
+  answer_mentioned_passes : (test : List ℕ → Bool) (x : List ℕ) (r : ResultType) → each_name_answered test r ≡ true → answer_mentions r x ≡ true → test x ≡ true
+  answer_mentioned_passes test x no_result h m = absurd (true≢false (sym m))
+  answer_mentioned_passes test x (with_result t) h m = mentioned_passes test x t h m
 
 pub field_mentioned_passes : (test : List ℕ → Bool) (x : List ℕ) (fs : List FieldDefinition) → each_field_name test fs ≡ true → fields_mention fs x ≡ true → test x ≡ true
 field_mentioned_passes test x [] h m = absurd (true≢false (sym m))
@@ -56,11 +73,23 @@ mutual
   each_passes : (test : List ℕ → Bool) (t : TypeExpression) → ((x : List ℕ) → mentions t x ≡ true → test x ≡ true) → each_name test t ≡ true
   each_passes test (named_type y) h = h y (bytes_eq-same y)
   each_passes test (tuple_type ts) h = each_of_passes test ts h
+  each_passes test (function_type ps r) h =
+      and_true (each_name_taken test ps) _ (each_taken_passes test ps (λ x m. h x (or_true_left (params_mention ps x) _ m)))
+      (each_answered_passes test r (λ x m. h x (or_true_right (params_mention ps x) _ m)))
 
   each_of_passes : (test : List ℕ → Bool) (ts : TypeExpressions) → ((x : List ℕ) → some_mentions ts x ≡ true → test x ≡ true) → each_name_of test ts ≡ true
   each_of_passes test no_types h = refl
   each_of_passes test (with_type t ts) h =
       and_true (each_name test t) _ (each_passes test t (λ x m. h x (or_true_left (mentions t x) _ m))) (each_of_passes test ts (λ x m. h x (or_true_right (mentions t x) _ m)))
+
+  each_taken_passes : (test : List ℕ → Bool) (ps : ParameterTypes) → ((x : List ℕ) → params_mention ps x ≡ true → test x ≡ true) → each_name_taken test ps ≡ true
+  each_taken_passes test no_parameters h = refl
+  each_taken_passes test (with_parameter t owned ps) h =
+      and_true (each_name test t) _ (each_passes test t (λ x m. h x (or_true_left (mentions t x) _ m))) (each_taken_passes test ps (λ x m. h x (or_true_right (mentions t x) _ m)))
+
+  each_answered_passes : (test : List ℕ → Bool) (r : ResultType) → ((x : List ℕ) → answer_mentions r x ≡ true → test x ≡ true) → each_name_answered test r ≡ true
+  each_answered_passes test no_result h = refl
+  each_answered_passes test (with_result t) h = each_passes test t h
 
 each_field_passes : (test : List ℕ → Bool) (fs : List FieldDefinition) → ((x : List ℕ) → fields_mention fs x ≡ true → test x ≡ true) → each_field_name test fs ≡ true
 each_field_passes test [] h = refl

@@ -1,14 +1,15 @@
 -- Sizes by level against the sizes of spelled types, and structs that are open at a level.
 use Rattle.std.proofs.Common.{◌≡◌, ℕ, zero, suc, ◌≤◌, Bool, true, false, ◌&&◌, List, [], ◌∷◌, Option, Some, None, min, refl, sym, ap, ap₂, ◌∙◌, true≢false, bytes_eq, codes, arith, if◌then◌else◌}
 use Rattle.gp_tree.specs.Program.{ProgramItem, FieldDefinition, StructDefinition}
-use Rattle.gp_tree.specs.TypeExpression.{TypeExpression, TypeExpressions, named_type, tuple_type, no_types, with_type}
+use Rattle.gp_tree.specs.TypeExpression.{TypeExpression, TypeExpressions, ParameterTypes, ResultType, named_type, tuple_type, function_type, no_types, with_type, no_parameters, with_parameter, no_result, with_result}
 use Rattle.gp_types.specs.Types as types
-use Rattle.gp_types.specs.Types.{Ty, Tys, Fields}
-use Rattle.gp_types.specs.Size.{size, total_size, total_field_size}
+use Rattle.gp_types.specs.Types.{Ty, Tys, Fields, FunParams, Answer}
+use Rattle.gp_types.specs.Signature.{mode_of}
+use Rattle.gp_types.specs.Size.{size, total_size, total_field_size, total_param_size, answer_size}
 use Rattle.gp_scope.specs.Definitions.{struct_named}
-use Rattle.gp_scope.specs.Spelled.{spelled_by, all_spelled_by, fields_spelled_by, basic_type, opened}
-use Rattle.gp_scope.specs.code.EachName.{each_name, each_name_of, each_field_name}
-use Rattle.gp_scope.specs.code.Levels.{size_by, total_by, fields_total, level_size}
+use Rattle.gp_scope.specs.Spelled.{spelled_by, all_spelled_by, params_spelled_by, answer_spelled_by, fields_spelled_by, basic_type, opened}
+use Rattle.gp_scope.specs.code.EachName.{each_name, each_name_of, each_name_taken, each_name_answered, each_field_name}
+use Rattle.gp_scope.specs.code.Levels.{size_by, total_by, params_total, answer_size_by, fields_total, level_size}
 
 pub and_left : (a b : Bool) → (a && b) ≡ true → a ≡ true
 and_left true b h = refl
@@ -69,11 +70,22 @@ module _ (test : List ℕ → Bool) (f g : List ℕ → Ty) (same : (x : List �
     pub same_type_by : (t : TypeExpression) → each_name test t ≡ true → spelled_by f t ≡ spelled_by g t
     same_type_by (named_type name) h = same name h
     same_type_by (tuple_type items) h = ap (λ ts. types.Tuple ts) (same_types_by items h)
+    same_type_by (function_type ps r) h =
+        ap₂ (λ a b. types.Function a b) (same_params_by ps (and_left (each_name_taken test ps) _ h)) (same_answer_by r (and_right (each_name_taken test ps) _ h))
 
     pub same_types_by : (ts : TypeExpressions) → each_name_of test ts ≡ true → all_spelled_by f ts ≡ all_spelled_by g ts
     same_types_by no_types h = refl
     same_types_by (with_type t ts) h =
         ap₂ (λ a b. types.more a b) (same_type_by t (and_left (each_name test t) _ h)) (same_types_by ts (and_right (each_name test t) _ h))
+
+    pub same_params_by : (ps : ParameterTypes) → each_name_taken test ps ≡ true → params_spelled_by f ps ≡ params_spelled_by g ps
+    same_params_by no_parameters h = refl
+    same_params_by (with_parameter t owned ps) h =
+        ap₂ (λ a b. types.param a (mode_of a owned) b) (same_type_by t (and_left (each_name test t) _ h)) (same_params_by ps (and_right (each_name test t) _ h))
+
+    pub same_answer_by : (r : ResultType) → each_name_answered test r ≡ true → answer_spelled_by f r ≡ answer_spelled_by g r
+    same_answer_by no_result h = refl
+    same_answer_by (with_result t) h = ap (λ a. types.answers a) (same_type_by t h)
 
   pub same_fields_by : (fs : List FieldDefinition) → each_field_name test fs ≡ true → fields_spelled_by f fs ≡ fields_spelled_by g fs
   same_fields_by [] h = refl
@@ -86,6 +98,10 @@ module _ (test : List ℕ → Bool) (sizes : List ℕ → ℕ) (f : List ℕ →
     pub type_below : (t : TypeExpression) → each_name test t ≡ true → size_by sizes t ≤ size (spelled_by f t)
     type_below (named_type name) h = below name h
     type_below (tuple_type items) h = let rest : total_by sizes items ≤ total_size (all_spelled_by f items) = types_below items h in omega arith
+    type_below (function_type ps r) h =
+        let here : params_total sizes ps ≤ total_param_size (params_spelled_by f ps) = params_below ps (and_left (each_name_taken test ps) _ h) in
+        let rest : answer_size_by sizes r ≤ answer_size (answer_spelled_by f r) = answer_below r (and_right (each_name_taken test ps) _ h) in
+        omega arith
 
     pub types_below : (ts : TypeExpressions) → each_name_of test ts ≡ true → total_by sizes ts ≤ total_size (all_spelled_by f ts)
     types_below no_types h = omega arith
@@ -93,6 +109,17 @@ module _ (test : List ℕ → Bool) (sizes : List ℕ → ℕ) (f : List ℕ →
         let here : size_by sizes t ≤ size (spelled_by f t) = type_below t (and_left (each_name test t) _ h) in
         let rest : total_by sizes ts ≤ total_size (all_spelled_by f ts) = types_below ts (and_right (each_name test t) _ h) in
         omega arith
+
+    pub params_below : (ps : ParameterTypes) → each_name_taken test ps ≡ true → params_total sizes ps ≤ total_param_size (params_spelled_by f ps)
+    params_below no_parameters h = omega arith
+    params_below (with_parameter t owned ps) h =
+        let here : size_by sizes t ≤ size (spelled_by f t) = type_below t (and_left (each_name test t) _ h) in
+        let rest : params_total sizes ps ≤ total_param_size (params_spelled_by f ps) = params_below ps (and_right (each_name test t) _ h) in
+        omega arith
+
+    pub answer_below : (r : ResultType) → each_name_answered test r ≡ true → answer_size_by sizes r ≤ answer_size (answer_spelled_by f r)
+    answer_below no_result h = omega arith
+    answer_below (with_result t) h = type_below t h
 
   pub fields_below : (fs : List FieldDefinition) → each_field_name test fs ≡ true → fields_total sizes fs ≤ total_field_size (fields_spelled_by f fs)
   fields_below [] h = omega arith
@@ -108,6 +135,10 @@ module _ (limit : ℕ) (test : List ℕ → Bool) (sizes : List ℕ → ℕ) (f 
     pub small_type : (t : TypeExpression) → size_by sizes t ≤ limit → (each_name test t ≡ true) × (size (spelled_by f t) ≤ size_by sizes t)
     small_type (named_type name) h = small name h
     small_type (tuple_type items) h = let rest = small_types items (omega arith) in (rest.0, omega (arith, rest.1))
+    small_type (function_type ps r) h =
+        let here = small_params ps (omega arith) in
+        let rest = small_answer r (omega arith) in
+        (and_true (each_name_taken test ps) _ here.0 rest.0, omega (arith, here.1, rest.1))
 
     pub small_types : (ts : TypeExpressions) → total_by sizes ts ≤ limit → (each_name_of test ts ≡ true) × (total_size (all_spelled_by f ts) ≤ total_by sizes ts)
     small_types no_types h = (refl, omega arith)
@@ -115,6 +146,19 @@ module _ (limit : ℕ) (test : List ℕ → Bool) (sizes : List ℕ → ℕ) (f 
         let here = small_type t (omega arith) in
         let rest = small_types ts (omega arith) in
         (and_true (each_name test t) _ here.0 rest.0, omega (arith, here.1, rest.1))
+
+    pub small_params : (ps : ParameterTypes) → params_total sizes ps ≤ limit
+        → (each_name_taken test ps ≡ true) × (total_param_size (params_spelled_by f ps) ≤ params_total sizes ps)
+    small_params no_parameters h = (refl, omega arith)
+    small_params (with_parameter t owned ps) h =
+        let here = small_type t (omega arith) in
+        let rest = small_params ps (omega arith) in
+        (and_true (each_name test t) _ here.0 rest.0, omega (arith, here.1, rest.1))
+
+    pub small_answer : (r : ResultType) → answer_size_by sizes r ≤ limit
+        → (each_name_answered test r ≡ true) × (answer_size (answer_spelled_by f r) ≤ answer_size_by sizes r)
+    small_answer no_result h = (refl, omega arith)
+    small_answer (with_result t) h = small_type t h
 
   pub small_fields : (fs : List FieldDefinition) → fields_total sizes fs ≤ limit
       → (each_field_name test fs ≡ true) × (total_field_size (fields_spelled_by f fs) ≤ fields_total sizes fs)
@@ -130,6 +174,7 @@ size-positive types.Bool = omega arith
 size-positive types.Qubit = omega arith
 size-positive (types.Tuple items) = omega arith
 size-positive (types.Struct name fields) = omega arith
+size-positive (types.Function ps r) = omega arith
 
 size-basic : (q : List ℕ) → size (basic_type q) ≡ 1
 size-basic q = go (bytes_eq q (codes "int")) (bytes_eq q (codes "bool"))

@@ -1,11 +1,11 @@
 -- The names of every program have exactly one first fault, or none.
-use Rattle.std.proofs.Common.{◌≡◌, ◌≢◌, ◌∙◌, ◌⊎◌, inl, inr, Bool, true, false, List, [], ◌∷◌, ◌++◌, ℕ, Option, Some, None, refl, sym}
+use Rattle.std.proofs.Common.{◌≡◌, ◌≢◌, ◌∙◌, inl, inr, Bool, true, false, List, [], ◌∷◌, ◌++◌, ℕ, Option, Some, None, refl, sym}
 use Rattle.std.specs.Prelude.{MatchOption, if◌then◌else◌, codes}
 use Rattle.gp_base.specs.declared.name.LineNo.{LineNo}
 use Rattle.gp_tree.specs.declared.program.Import.{Import}
 use Rattle.gp_tree.specs.Form.{Parameter}
-use Rattle.gp_tree.specs.Program.{ProgramItem, import_item, struct_item, function_item, FieldDefinition, StructDefinition, FunctionDefinition}
-use Rattle.gp_tree.specs.TypeExpression.{TypeExpression, named_type}
+use Rattle.gp_tree.specs.Program.{ProgramItem, import_item, struct_item, function_item, FieldDefinition, StructDefinition}
+use Rattle.gp_tree.specs.TypeExpression.{TypeExpression, TypeExpressions, ParameterTypes, ResultType, named_type, tuple_type, function_type, no_types, with_type, no_parameters, with_parameter, no_result, with_result}
 use Rattle.gp_scope.specs.declared.fault.ScopeFault.{ScopeFault}
 use Rattle.gp_scope.specs.declared.fault.ScopeFault.TheVariants as fault
 use Rattle.gp_scope.specs.Annotations.{Annotation, annotations}
@@ -98,8 +98,28 @@ decorators_of items = go (imports items (codes "guppy"))
     go true = tt
     go false = first_decorator_of items
 
-type_of : (program : List ProgramItem) (line : LineNo) (t : TypeExpression) → IsOfNames (parts.unknown_type_fault program line t)
-type_of program line t = where_of _ _ (unknown_type line)
+mark_of : (program : List ProgramItem) (line : LineNo) (owned : Bool) → IsOfNames (parts.mark_fault program line owned)
+mark_of program line owned = where_of _ _ (not_imported line)
+
+mutual
+  type_of : (program : List ProgramItem) (line : LineNo) (t : TypeExpression) → IsOfNames (parts.type_fault program line t)
+  type_of program line (named_type name) = where_of _ _ (unknown_type line)
+  type_of program line (tuple_type ts) = types_of program line ts
+  type_of program line (function_type ps r) =
+      first_of _ _ (where_of _ _ (not_imported line)) (first_of _ _ (parameter_types_of program line ps) (result_type_of program line r))
+
+  types_of : (program : List ProgramItem) (line : LineNo) (ts : TypeExpressions) → IsOfNames (parts.types_fault program line ts)
+  types_of program line no_types = tt
+  types_of program line (with_type t ts) = first_of _ _ (type_of program line t) (types_of program line ts)
+
+  parameter_types_of : (program : List ProgramItem) (line : LineNo) (ps : ParameterTypes) → IsOfNames (parts.parameter_types_fault program line ps)
+  parameter_types_of program line no_parameters = tt
+  parameter_types_of program line (with_parameter t owned ps) =
+      first_of _ _ (type_of program line t) (first_of _ _ (mark_of program line owned) (parameter_types_of program line ps))
+
+  result_type_of : (program : List ProgramItem) (line : LineNo) (r : ResultType) → IsOfNames (parts.result_type_fault program line r)
+  result_type_of program line no_result = tt
+  result_type_of program line (with_result t) = type_of program line t
 
 fields_of : (program : List ProgramItem) (taken : List (List ℕ)) (fs : List FieldDefinition) → IsOfNames (parts.fields_fault program taken fs)
 fields_of program taken [] = tt
@@ -111,7 +131,7 @@ parameters_of program line taken [] = tt
 parameters_of program line taken (p ∷ ps) =
     first_of _ _ (where_of _ _ (twice line))
     (first_of _ _ (type_of program line p.ty)
-    (first_of _ _ (where_of _ _ (not_imported line)) (parameters_of program line (taken ++ p.name ∷ []) ps)))
+    (first_of _ _ (mark_of program line p.owned) (parameters_of program line (taken ++ p.name ∷ []) ps)))
 
 result_of : (program : List ProgramItem) (line : LineNo) (t : Option TypeExpression) → IsOfNames (parts.result_fault program line t)
 result_of program line None = tt

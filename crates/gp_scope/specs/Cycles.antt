@@ -1,7 +1,7 @@
--- Structs that hold themselves, through fields and tuples.
+-- Structs that hold themselves, through fields, tuples, and parameters and results of function types.
 use Rattle.std.specs.Prelude.{◌≡◌, ℕ, Bool, true, false, ◌||◌, List, [], ◌∷◌, Some, None, bytes_eq}
 use Rattle.gp_tree.specs.Program.{ProgramItem, FieldDefinition}
-use Rattle.gp_tree.specs.TypeExpression.{TypeExpression, TypeExpressions, named_type, tuple_type, no_types, with_type}
+use Rattle.gp_tree.specs.TypeExpression.{TypeExpression, TypeExpressions, ParameterTypes, ResultType, named_type, tuple_type, function_type, no_types, with_type, no_parameters, with_parameter, no_result, with_result}
 use Rattle.gp_scope.specs.Definitions.{struct_named}
 
 -- whether a written type names the name
@@ -9,10 +9,19 @@ abbrev mutual
   pub mentions : TypeExpression → List ℕ → Bool
   mentions (named_type its_name) name = bytes_eq name its_name
   mentions (tuple_type items) name = some_mentions items name
+  mentions (function_type params answer) name = params_mention params name || answer_mentions answer name
 
   pub some_mentions : TypeExpressions → List ℕ → Bool
   some_mentions no_types name = false
   some_mentions (with_type t ts) name = mentions t name || some_mentions ts name
+
+  pub params_mention : ParameterTypes → List ℕ → Bool
+  params_mention no_parameters name = false
+  params_mention (with_parameter t owned ps) name = mentions t name || params_mention ps name
+
+  pub answer_mentions : ResultType → List ℕ → Bool
+  answer_mentions no_result name = false
+  answer_mentions (with_result t) name = mentions t name
 
 abbrev pub fields_mention : List FieldDefinition → List ℕ → Bool
 fields_mention [] name = false

@@ -11,5 +11,7 @@ offers module_name name =
     else if bytes_eq module_name (codes "guppylang.std.lang") then bytes_eq name (codes "owned")
     -- `qubit` and the other built-in functions, but for `result`
     else if bytes_eq module_name (codes "guppylang.std.quantum") then is_some (builtin_named name) && not (bytes_eq name (codes "result"))
+    else if bytes_eq module_name (codes "collections.abc") then bytes_eq name (codes "Callable")
+    else if bytes_eq module_name (codes "typing") then bytes_eq name (codes "Callable")
     else if bytes_eq module_name (codes "__future__") then bytes_eq name (codes "annotations")
     else false

@@ -3,9 +3,9 @@ use Rattle.std.specs.Prelude.{◌≡◌, ℕ, zero, suc, List, [], ◌∷◌, ma
 use Rattle.gp_base.specs.declared.name.LineNo.{LineNo}
 use Rattle.gp_tree.specs.Form as form
 use Rattle.gp_tree.specs.Program.{ProgramItem, FieldDefinition, StructDefinition, FunctionDefinition}
-use Rattle.gp_tree.specs.TypeExpression.{TypeExpression, TypeExpressions, named_type, tuple_type, no_types, with_type}
+use Rattle.gp_tree.specs.TypeExpression.{TypeExpression, TypeExpressions, ParameterTypes, ParameterType, ResultType, named_type, tuple_type, function_type, no_types, with_type, no_parameters, with_parameter, no_result, with_result}
 use Rattle.gp_types.specs.Types as types
-use Rattle.gp_types.specs.Types.{Ty, Tys, Field, Fields}
+use Rattle.gp_types.specs.Types.{Ty, Tys, Field, Fields, FunParam, FunParams, Answer}
 use Rattle.gp_types.specs.Signature.{Parameter, Signature, mode_of}
 use Rattle.gp_scope.specs.Definitions.{struct_named, function_named}
 use Rattle.gp_scope.specs.Annotations.{program_annotations}
@@ -15,10 +15,20 @@ abbrev mutual
   pub spelled_by : (List ℕ → Ty) → TypeExpression → Ty
   spelled_by types_of (named_type name) = types_of name
   spelled_by types_of (tuple_type items) = types.Tuple (all_spelled_by types_of items)
+  spelled_by types_of (function_type params answer) = types.Function (params_spelled_by types_of params) (answer_spelled_by types_of answer)
 
   pub all_spelled_by : (List ℕ → Ty) → TypeExpressions → Tys
   all_spelled_by types_of no_types = types.none
   all_spelled_by types_of (with_type t ts) = types.more (spelled_by types_of t) (all_spelled_by types_of ts)
+
+  pub params_spelled_by : (List ℕ → Ty) → ParameterTypes → FunParams
+  params_spelled_by types_of no_parameters = types.no_params
+  params_spelled_by types_of (with_parameter t owned ps) =
+      types.param (spelled_by types_of t) (mode_of (spelled_by types_of t) owned) (params_spelled_by types_of ps)
+
+  pub answer_spelled_by : (List ℕ → Ty) → ResultType → Answer
+  answer_spelled_by types_of no_result = types.no_answer
+  answer_spelled_by types_of (with_result t) = types.answers (spelled_by types_of t)
 
 abbrev pub fields_spelled_by : (List ℕ → Ty) → List FieldDefinition → Fields
 fields_spelled_by types_of [] = types.end
@@ -26,6 +36,9 @@ fields_spelled_by types_of (f ∷ fs) = types.field f.name (spelled_by types_of 
 
 abbrev pub spelled_field : (List ℕ → Ty) → FieldDefinition → Field
 spelled_field types_of f = record { name = f.name; ty = spelled_by types_of f.ty }
+
+abbrev pub spelled_param : (List ℕ → Ty) → ParameterType → FunParam
+spelled_param types_of p = record { ty = spelled_by types_of p.ty; mode = mode_of (spelled_by types_of p.ty) p.owned }
 
 -- the type of a name that is no struct's: `int`, `bool` or else `qubit`
 abbrev pub basic_type : List ℕ → Ty

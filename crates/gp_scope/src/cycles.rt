@@ -4,12 +4,12 @@ ghost use Rattle.std.specs.Prelude.{◌≡◌, ◌≢◌, ◌+◌, ◌&&◌, ◌
 ghost use Rattle.std.specs.Bool.{MatchBool};
 ghost use Rattle.indexmap.specs.IndexMap.{index_map_len};
 ghost use Rattle.gp_tree.specs.Program.{program_items, field_definition, struct_definition};
-ghost use Rattle.gp_tree.specs.TypeExpression.{type_expression, type_expressions};
+ghost use Rattle.gp_tree.specs.TypeExpression.{type_expression, type_expressions, parameter_types, result_type};
 ghost use Rattle.gp_scope.specs.Checks.{is_among};
 ghost use Rattle.gp_scope.specs.Definitions.{structs_in};
 ghost use Rattle.gp_scope.specs.Cycles as spec;
 ghost use Rattle.gp_scope.specs.code.Components as components;
-ghost use Rattle.gp_scope.specs.code.EachName.{each_name, each_name_of, each_field_name};
+ghost use Rattle.gp_scope.specs.code.EachName.{each_name, each_name_of, each_name_taken, each_name_answered, each_field_name};
 ghost use Rattle.gp_scope.specs.FirstFault.{CyclesAnswer};
 ghost use Rattle.gp_scope.specs.Tables.{struct_at, texts_of, value_in};
 ghost use Rattle.gp_scope.specs.code.NamesOf.{AreNames};
@@ -18,11 +18,12 @@ use crate::components::struct_components;
 use crate::definitions::struct_table;
 use crate::fault::ScopeFault;
 use crate::names::{Names, value_of};
-use gp_tree::{FieldDecl, Item, StructDecl, TypeExpr};
+use gp_tree::{FieldDecl, FunParamExpr, Item, StructDecl, TypeExpr};
 use indexmap::IndexMap;
 use std::alloc::{AllocError, Global};
+use std::rc::Rc;
 
-/// No struct holds itself, through fields and tuples.
+/// No struct holds itself, through fields, tuples, and parameters and results of function types.
 ///
 /// The numbers of components show for nearly all structs that they are on no cycle; those of which they don't show it
 /// are searched from, up to the first that is on one. One of the first component is searched from in any case, since a
@@ -115,6 +116,10 @@ fn is_within(names: &Names, numbers: &[u64], limit: u64, ty: &TypeExpr) -> bool
     match ty {
         TypeExpr::Named(name) => value_of(names, numbers, name.as_str()) <= limit,
         TypeExpr::Tuple(items) => are_within(names, numbers, limit, items),
+        TypeExpr::Callable(params, answer) => {
+            are_params_within(names, numbers, limit, params)
+                && is_answer_within(names, numbers, limit, answer)
+        }
     }
 }
 
@@ -128,6 +133,33 @@ fn are_within(names: &Names, numbers: &[u64], limit: u64, items: &[TypeExpr]) ->
         }
     }
     true
+}
+
+#[cycle(within)]
+fn are_params_within(names: &Names, numbers: &[u64], limit: u64, params: &[FunParamExpr]) -> bool
+    ensures { result ≡ each_name_taken (λ name. nat_le (value_in names.now.structs numbers.now name) limit) (parameter_types params.now) }
+{
+    for param in params {
+        if !is_within(names, numbers, limit, &param.ty) {
+            return false;
+        }
+    }
+    true
+}
+
+#[cycle(within)]
+fn is_answer_within(
+    names: &Names,
+    numbers: &[u64],
+    limit: u64,
+    answer: &Option<Rc<TypeExpr>>,
+) -> bool
+    ensures { result ≡ each_name_answered (λ name. nat_le (value_in names.now.structs numbers.now name) limit) (result_type answer.now) }
+{
+    match answer {
+        None => true,
+        Some(ty) => is_within(names, numbers, limit, ty),
+    }
 }
 
 // The same by a search: the structs that this one reaches are taken out of those not seen yet.
@@ -187,6 +219,10 @@ fn add_names<'a>(ty: &'a TypeExpr, held: &mut Vec<&'a str>) -> Result<(), AllocE
     match ty {
         TypeExpr::Named(name) => held.push(name.as_str())?,
         TypeExpr::Tuple(items) => add_all_names(items, held)?,
+        TypeExpr::Callable(params, answer) => {
+            add_params_names(params, held)?;
+            add_answer_names(answer, held)?;
+        }
     }
     Ok(())
 }
@@ -197,6 +233,32 @@ fn add_all_names<'a>(items: &'a [TypeExpr], held: &mut Vec<&'a str>) -> Result<(
 {
     for item in items {
         add_names(item, held)?;
+    }
+    Ok(())
+}
+
+#[cycle(names)]
+fn add_params_names<'a>(
+    params: &'a [FunParamExpr],
+    held: &mut Vec<&'a str>,
+) -> Result<(), AllocError>
+    ensures { OnOk result ((q : List ℕ) → is_among q (texts_of held.new.items) ≡ (is_among q (texts_of held.old.items) || spec.params_mention (parameter_types params.now) q)) }
+{
+    for param in params {
+        add_names(&param.ty, held)?;
+    }
+    Ok(())
+}
+
+#[cycle(names)]
+fn add_answer_names<'a>(
+    answer: &'a Option<Rc<TypeExpr>>,
+    held: &mut Vec<&'a str>,
+) -> Result<(), AllocError>
+    ensures { OnOk result ((q : List ℕ) → is_among q (texts_of held.new.items) ≡ (is_among q (texts_of held.old.items) || spec.answer_mentions (result_type answer.now) q)) }
+{
+    if let Some(ty) = answer {
+        add_names(ty, held)?;
     }
     Ok(())
 }

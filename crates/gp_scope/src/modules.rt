@@ -15,6 +15,7 @@ pub fn offers(module_name: &str, name: &str) -> bool
         "guppylang.std.platform" => name == "result",
         "guppylang.std.lang" => name == "owned",
         "guppylang.std.quantum" => builtin(name).is_some() && name != "result",
+        "collections.abc" | "typing" => name == "Callable",
         "__future__" => name == "annotations",
         _ => false,
     }

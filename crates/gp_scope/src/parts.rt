@@ -3,7 +3,7 @@
 ghost use Rattle.std.specs.Prelude.{◌≡◌, [], map};
 ghost use Rattle.gp_tree.specs.Form.{parameter};
 ghost use Rattle.gp_tree.specs.Program.{program_items, field_definition, function_definition};
-ghost use Rattle.gp_tree.specs.TypeExpression.{type_expression, type_expressions, maybe_type};
+ghost use Rattle.gp_tree.specs.TypeExpression.{type_expression, type_expressions, parameter_types, result_type, maybe_type, named_type};
 ghost use Rattle.gp_scope.specs.Checks.{Answers};
 ghost use Rattle.gp_scope.specs.Parts as spec;
 ghost use Rattle.gp_scope.specs.code.NamesOf.{AreNames};
@@ -13,9 +13,10 @@ use crate::annotations::{Annotation, annotations};
 use crate::fault::ScopeFault;
 use crate::names::{Names, take_name};
 use gp_base::LineNo;
-use gp_tree::{FieldDecl, Function, Item, Param, TypeExpr};
+use gp_tree::{FieldDecl, FunParamExpr, Function, Item, Param, TypeExpr};
 use indexmap::IndexSet;
 use std::alloc::Global;
+use std::rc::Rc;
 
 /// Each struct and function in turn has parts with names of their own and types that are known.
 pub fn check_parts(alloc: Global, names: &Names) -> Result<(), ScopeFault>
@@ -71,9 +72,7 @@ fn check_parameters(
             return Err(ScopeFault::NameTwice(line));
         }
         check_type(names, line, &param.ty)?;
-        if param.owned && !names.imported.contains("owned") {
-            return Err(ScopeFault::NotImported(line));
-        }
+        check_mark(names, line, param.owned)?;
     }
     Ok(())
 }
@@ -98,39 +97,86 @@ fn check_annotations(names: &Names, annotations: &[Annotation]) -> Result<(), Sc
     Ok(())
 }
 
+// `@owned` needs an import.
+fn check_mark(names: &Names, line: LineNo, owned: bool) -> Result<(), ScopeFault>
+    requires { AreNames names.now }
+    ensures { Answers result (spec.mark_fault (program_items names.now.items.now) line owned) }
+{
+    if owned && !names.imported.contains("owned") {
+        return Err(ScopeFault::NotImported(line));
+    }
+    Ok(())
+}
+
+#[cycle(written)]
 fn check_type(names: &Names, line: LineNo, ty: &TypeExpr) -> Result<(), ScopeFault>
     requires { AreNames names.now }
-    ensures { Answers result (spec.unknown_type_fault (program_items names.now.items.now) line (type_expression ty.now)) }
+    ensures { Answers result (spec.type_fault (program_items names.now.items.now) line (type_expression ty.now)) }
 {
-    if is_known(names, ty) {
+    match ty {
+        TypeExpr::Named(name) => check_type_name(names, line, name.as_str()),
+        TypeExpr::Tuple(items) => check_types(names, line, items),
+        TypeExpr::Callable(params, answer) => {
+            if !names.imported.contains("Callable") {
+                return Err(ScopeFault::NotImported(line));
+            }
+            check_parameter_types(names, line, params)?;
+            check_result_type(names, line, answer)
+        }
+    }
+}
+
+#[cycle(written)]
+fn check_types(names: &Names, line: LineNo, items: &[TypeExpr]) -> Result<(), ScopeFault>
+    requires { AreNames names.now }
+    ensures { Answers result (spec.types_fault (program_items names.now.items.now) line (type_expressions items.now)) }
+{
+    for item in items {
+        check_type(names, line, item)?;
+    }
+    Ok(())
+}
+
+#[cycle(written)]
+fn check_parameter_types(
+    names: &Names,
+    line: LineNo,
+    params: &[FunParamExpr],
+) -> Result<(), ScopeFault>
+    requires { AreNames names.now }
+    ensures { Answers result (spec.parameter_types_fault (program_items names.now.items.now) line (parameter_types params.now)) }
+{
+    for taken in params {
+        check_type(names, line, &taken.ty)?;
+        check_mark(names, line, taken.owned)?;
+    }
+    Ok(())
+}
+
+#[cycle(written)]
+fn check_result_type(
+    names: &Names,
+    line: LineNo,
+    answer: &Option<Rc<TypeExpr>>,
+) -> Result<(), ScopeFault>
+    requires { AreNames names.now }
+    ensures { Answers result (spec.result_type_fault (program_items names.now.items.now) line (result_type answer.now)) }
+{
+    match answer {
+        None => Ok(()),
+        Some(ty) => check_type(names, line, ty),
+    }
+}
+
+fn check_type_name(names: &Names, line: LineNo, name: &str) -> Result<(), ScopeFault>
+    requires { AreNames names.now }
+    ensures { Answers result (spec.type_fault (program_items names.now.items.now) line (named_type name.now)) }
+{
+    if is_type(names, name) {
         Ok(())
     } else {
         Err(ScopeFault::UnknownType(line))
     }
-}
-
-#[cycle(known)]
-fn is_known(names: &Names, ty: &TypeExpr) -> bool
-    requires { AreNames names.now }
-    ensures { result ≡ spec.is_known (program_items names.now.items.now) (type_expression ty.now) }
-{
-    match ty {
-        TypeExpr::Named(name) => is_type(names, name.as_str()),
-        TypeExpr::Tuple(items) => are_known(names, items),
-    }
-}
-
-#[cycle(known)]
-fn are_known(names: &Names, items: &[TypeExpr]) -> bool
-    requires { AreNames names.now }
-    ensures { result ≡ spec.are_known (program_items names.now.items.now) (type_expressions items.now) }
-{
-    for item in items {
-        if !is_known(names, item) {
-            return false;
-        }
-    }
-    true
 }
 
 fn is_type(names: &Names, name: &str) -> bool

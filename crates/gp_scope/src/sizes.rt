@@ -4,15 +4,16 @@ ghost use Rattle.std.specs.Prelude.{◌≡◌, ℕ, ◌≤◌, ◌<◌, suc, Lis
 ghost use Rattle.indexmap.specs.IndexMap.{values, index_map_len};
 ghost use Rattle.gp_tree.specs.Form.{parameter};
 ghost use Rattle.gp_tree.specs.Program.{program_items, field_definition, struct_definition, function_definition};
-ghost use Rattle.gp_tree.specs.TypeExpression.{type_expression, type_expressions, maybe_type};
-ghost use Rattle.gp_scope.specs.code.Levels.{size_by, total_by, fields_total, level_size};
+ghost use Rattle.gp_tree.specs.TypeExpression.{type_expression, type_expressions, parameter_types, result_type, maybe_type};
+ghost use Rattle.gp_scope.specs.code.Levels.{size_by, total_by, params_total, answer_size_by, fields_total, level_size};
 ghost use Rattle.gp_scope.specs.Tables.{value_in};
 ghost use Rattle.gp_scope.specs.code.NamesOf.{AreNames};
 
 use crate::names::{Names, value_of};
-use gp_tree::{FieldDecl, TypeExpr};
+use gp_tree::{FieldDecl, FunParamExpr, TypeExpr};
 use gp_types::TYPE_SIZE_LIMIT;
 use std::alloc::{AllocError, Global};
+use std::rc::Rc;
 
 // What stands for every size above the limit.
 const ABOVE: u64 = 65;
@@ -62,6 +63,10 @@ pub fn written_size(names: &Names, sizes: &[u64], ty: &TypeExpr) -> u64
     match ty {
         TypeExpr::Named(name) => value_of(names, sizes, name.as_str()).min(ABOVE),
         TypeExpr::Tuple(items) => (1 + items_size(names, sizes, items)).min(ABOVE),
+        TypeExpr::Callable(params, answer) => {
+            let taken = params_size(names, sizes, params);
+            (1 + taken + answer_size(names, sizes, answer)).min(ABOVE)
+        }
     }
 }
 
@@ -74,4 +79,25 @@ fn items_size(names: &Names, sizes: &[u64], items: &[TypeExpr]) -> u64
         total = (total + written_size(names, sizes, item)).min(ABOVE);
     }
     total
+}
+
+#[cycle(written)]
+fn params_size(names: &Names, sizes: &[u64], params: &[FunParamExpr]) -> u64
+    ensures { result ≡ min (params_total (value_in names.now.structs sizes.now) (parameter_types params.now)) 65 }
+{
+    let mut total: u64 = 0;
+    for param in params {
+        total = (total + written_size(names, sizes, &param.ty)).min(ABOVE);
+    }
+    total
+}
+
+#[cycle(written)]
+fn answer_size(names: &Names, sizes: &[u64], answer: &Option<Rc<TypeExpr>>) -> u64
+    ensures { result ≡ min (answer_size_by (value_in names.now.structs sizes.now) (result_type answer.now)) 65 }
+{
+    match answer {
+        None => 0,
+        Some(ty) => written_size(names, sizes, ty),
+    }
 }

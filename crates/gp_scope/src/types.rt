@@ -3,18 +3,20 @@
 ghost use Rattle.std.specs.Prelude.{◌≡◌, IfOk, Some, None, map, option_map};
 ghost use Rattle.gp_tree.specs.Form.{parameter};
 ghost use Rattle.gp_tree.specs.Program.{program_items, field_definition, function_definition};
-ghost use Rattle.gp_tree.specs.TypeExpression.{type_expression, maybe_type, named_type};
-ghost use Rattle.gp_types.specs.View.{ty_view, field_view};
+ghost use Rattle.gp_tree.specs.TypeExpression.{type_expression, parameter_type, result_type, maybe_type, named_type};
+ghost use Rattle.gp_types.specs.Types.{answer_of};
+ghost use Rattle.gp_types.specs.View.{ty_view, field_view, param_view};
 ghost use Rattle.gp_types.specs.Signature.{parameter_view, signature_view};
-ghost use Rattle.gp_scope.specs.Spelled.{spelled, spelled_by, spelled_field, parameter_of, signature_of};
+ghost use Rattle.gp_scope.specs.Spelled.{spelled, spelled_by, spelled_field, spelled_param, answer_spelled_by, parameter_of, signature_of};
 ghost use Rattle.gp_scope.specs.Spelled as spec;
 ghost use Rattle.gp_scope.specs.code.NamesOf.{AreWhole, whole};
 
 use crate::names::Names;
 use gp_base::{Name, Sequence};
-use gp_tree::{FieldDecl, Function, Param, TypeExpr};
-use gp_types::{Field, Fields, Mode, SigParam, SigParams, Signature, Ty, Tys};
+use gp_tree::{FieldDecl, FunParamExpr, Function, Param, TypeExpr};
+use gp_types::{Field, Fields, FunParam, FunParams, Mode, SigParam, SigParams, Signature, Ty, Tys};
 use std::alloc::{AllocError, Global};
+use std::rc::Rc;
 
 /// The type that a written type spells.
 #[cycle(spell)]
@@ -25,6 +27,11 @@ pub fn spell(alloc: Global, names: &Names, ty: &TypeExpr) -> Result<Ty, AllocErr
     match ty {
         TypeExpr::Named(name) => spell_name(alloc, names, name),
         TypeExpr::Tuple(items) => Ty::tuple(spell_items(alloc, names, items)?),
+        TypeExpr::Callable(params, answer) => {
+            let params = spell_params(alloc, names, params)?;
+            let answer = spell_answer(alloc, names, answer)?;
+            Ty::function(alloc, params, answer)
+        }
     }
 }
 
@@ -79,6 +86,39 @@ fn spell_fields(alloc: Global, names: &Names, fields: &[FieldDecl]) -> Result<Fi
         })?;
     }
     Ok(made)
+}
+
+#[cycle(spell)]
+fn spell_params(
+    alloc: Global,
+    names: &Names,
+    params: &[FunParamExpr],
+) -> Result<FunParams, AllocError>
+    requires { AreWhole names.now }
+    ensures { IfOk result (λ made. map param_view made.items ≡ map (λ p. spelled_param (whole names.now) (parameter_type p)) params.now) }
+{
+    let mut made = Vec::new(alloc);
+    for param in params {
+        let ty = spell(alloc, names, &param.ty)?;
+        let taken = Mode::of(&ty, param.owned);
+        made.push(FunParam { ty, mode: taken })?;
+    }
+    Ok(made)
+}
+
+#[cycle(spell)]
+fn spell_answer(
+    alloc: Global,
+    names: &Names,
+    answer: &Option<Rc<TypeExpr>>,
+) -> Result<Option<Ty>, AllocError>
+    requires { AreWhole names.now }
+    ensures { IfOk result (λ made. answer_of (option_map ty_view made) ≡ answer_spelled_by (whole names.now) (result_type answer.now)) }
+{
+    match answer {
+        None => Ok(None),
+        Some(ty) => Ok(Some(spell(alloc, names, ty)?)),
+    }
 }
 
 /// What a function takes and answers.

@@ -1,10 +1,10 @@
 //! What names call, and which strings are tags.
 
 use gp_base::{LineNo, Name, Names, Sequence};
-use gp_locals::{Callee, Locals, find_callee, is_tag, locals_of, takes_tag};
+use gp_locals::{Callee, callee_of_type, find_callee, is_tag, takes_tag};
 use gp_scope::{Scope, collect};
 use gp_tree::{Function, Import, Item, Program, StructDecl};
-use gp_types::{Mode, SigParam, Ty};
+use gp_types::Ty;
 use std::alloc::{AllocError, Global};
 use std::test::Fail;
 
@@ -51,31 +51,19 @@ fn program(alloc: Global) -> Result<Program, AllocError> {
     Ok(program)
 }
 
-// The names of a function that takes `local` and `x`.
-fn locals(alloc: Global) -> Result<Locals, AllocError> {
-    let mut params = Vec::new(alloc);
-    for name in ["local", "x"] {
-        params.push(SigParam {
-            name: Name::new(alloc, name)?,
-            ty: Ty::Int,
-            mode: Mode::Copied,
-        })?;
-    }
-    locals_of(alloc, &params, &[])
-}
-
 // What a call of the name calls, in a word.
-fn called(scope: &Scope, names: &Locals, name: &str) -> &'static str {
-    match find_callee(scope, names, name) {
+fn called(scope: &Scope, name: &str) -> &'static str {
+    match find_callee(scope, name) {
         None => "nothing",
         Some(callee) if takes_tag(&callee) => "result",
         Some(Callee::Written(_)) => "function",
+        Some(Callee::Value(_, _)) => "value",
         Some(Callee::Made(_)) => "struct",
         Some(Callee::BuiltIn(_)) => "built-in",
     }
 }
 
-const CALLED: [(&str, &str); 7] = [
+const CALLED: [(&str, &str); 6] = [
     ("main", "function"),
     ("Pair", "struct"),
     ("h", "built-in"),
@@ -84,21 +72,27 @@ const CALLED: [(&str, &str); 7] = [
     ("measure", "nothing"),
     // It is imported, and no built-in function.
     ("guppy", "nothing"),
-    ("local", "nothing"),
 ];
 
 #[test]
 fn names_call_what_the_program_says(rt: HostRuntime) -> Result<(), Fail> {
     let program = program(rt.alloc())?;
-    let names = locals(rt.alloc())?;
     match collect(rt.alloc(), &program) {
         Ok(scope) => {
             for (name, what) in CALLED {
-                assert_eq!(rt; called(&scope, &names, name), what);
+                assert_eq!(rt; called(&scope, name), what);
             }
         }
         Err(_) => assert!(rt; false),
     }
+    Ok(())
+}
+
+#[test]
+fn a_function_type_is_called_by_what_it_takes(rt: HostRuntime) -> Result<(), Fail> {
+    let ty = Ty::function(rt.alloc(), Vec::new(rt.alloc()), Some(Ty::Int))?;
+    assert!(rt; matches!(callee_of_type(&ty), Some(Callee::Value([], Some(_)))));
+    assert!(rt; callee_of_type(&Ty::Int).is_none());
     Ok(())
 }
 

@@ -6,7 +6,7 @@ use gp_tree::expr::{BinOp, Expr, Exprs};
 use gp_tree::function::Params;
 use gp_tree::line_form::LineForm;
 use gp_tree::place::{Place, Places, Targets};
-use gp_tree::type_expr::{TypeExpr, TypeExprs};
+use gp_tree::type_expr::{FunParamExpr, FunParamExprs, TypeExpr, TypeExprs};
 use std::alloc::{AllocError, Global};
 use std::test::Fail;
 
@@ -122,12 +122,20 @@ fn calls_and_tuples_have_their_parts(rt: HostRuntime) -> Result<(), Fail> {
     Ok(())
 }
 
+// Whether the type is this name.
+fn is_type(ty: &TypeExpr, text: &str) -> bool {
+    match ty {
+        TypeExpr::Named(name) => name.as_str() == text,
+        _ => false,
+    }
+}
+
 #[test]
 fn types_are_copied(rt: HostRuntime) -> Result<(), Fail> {
     let mut parts = TypeExprs::new(rt.alloc());
     parts.push(TypeExpr::Named(name(rt.alloc(), "int")?))?;
     parts.push(TypeExpr::Named(name(rt.alloc(), "qubit")?))?;
-    let TypeExpr::Tuple(copies) = TypeExpr::Tuple(parts).copy(rt.alloc())? else {
+    let TypeExpr::Tuple(copies) = TypeExpr::tuple(parts)?.copy()? else {
         return Err("no tuple".into());
     };
     let [TypeExpr::Named(first), TypeExpr::Named(second)] = copies.as_slice() else {
@@ -135,6 +143,28 @@ fn types_are_copied(rt: HostRuntime) -> Result<(), Fail> {
     };
     assert_eq!(rt; first.as_str(), "int");
     assert_eq!(rt; second.as_str(), "qubit");
+    Ok(())
+}
+
+#[test]
+fn function_types_have_their_parts(rt: HostRuntime) -> Result<(), Fail> {
+    let alloc = rt.alloc();
+    let ty = TypeExpr::Named(name(alloc, "qubit")?);
+    let mut params = FunParamExprs::new(alloc);
+    params.push(FunParamExpr { ty, owned: true })?;
+    let answer = TypeExpr::Named(name(alloc, "bool")?);
+    let made = TypeExpr::function(alloc, params, Some(answer))?.copy()?;
+    let TypeExpr::Callable(params, Some(answer)) = &made else {
+        return Err("no function type with an answer".into());
+    };
+    let [param] = params.as_slice() else {
+        return Err("not one parameter".into());
+    };
+    assert!(rt; param.owned);
+    assert!(rt; is_type(&param.ty, "qubit"));
+    assert!(rt; is_type(answer.as_ref(), "bool"));
+    let made = TypeExpr::function(alloc, FunParamExprs::new(alloc), None)?;
+    assert!(rt; matches!(made, TypeExpr::Callable(_, None)));
     Ok(())
 }
 

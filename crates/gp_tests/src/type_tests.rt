@@ -2,10 +2,11 @@
 
 use gp_base::{GateName, Name, Sequence};
 use gp_types::builtins::{Builtin, BuiltinType};
+use gp_types::mode::Mode;
 use gp_types::names::builtin;
 use gp_types::same::{same_type, same_types};
-use gp_types::signature::{Mode, SigParam, Signature};
-use gp_types::ty::{Field, Ty, is_linear, leaf_count, size};
+use gp_types::signature::{SigParam, Signature};
+use gp_types::ty::{Field, FunParam, Ty, is_linear, leaf_count, size};
 use std::alloc::{AllocError, Global};
 use std::test::Fail;
 
@@ -47,6 +48,27 @@ fn struct_types_are_equal_by_name(rt: HostRuntime) -> Result<(), Fail> {
     Ok(())
 }
 
+// `Callable[[qubit], int]`, where the qubit is taken so.
+fn function(alloc: Global, mode: Mode) -> Result<Ty, AllocError> {
+    let mut params = Vec::new(alloc);
+    params.push(FunParam {
+        ty: Ty::Qubit,
+        mode,
+    })?;
+    Ty::function(alloc, params, Some(Ty::Int))
+}
+
+#[test]
+fn function_types_are_equal_by_types_and_modes(rt: HostRuntime) -> Result<(), Fail> {
+    let lent = function(rt.alloc(), Mode::Borrowed)?;
+    assert!(rt; same_type(&lent, &lent.copy()?));
+    assert!(rt; !same_type(&lent, &function(rt.alloc(), Mode::Owned)?));
+    assert_eq!(rt; size(&lent), 3);
+    assert_eq!(rt; leaf_count(&lent), 1);
+    assert!(rt; !is_linear(&lent));
+    Ok(())
+}
+
 #[test]
 fn built_in_functions_have_names_parameters_and_answers(rt: HostRuntime) {
     assert!(rt; builtin("sdg") == Some(Builtin::OneQubitGate(GateName::Sdg)));
@@ -68,5 +90,7 @@ fn signatures_have_parameters(rt: HostRuntime) -> Result<(), Fail> {
         result: None,
     };
     assert_eq!(rt; signature.params.len(), 1);
+    assert!(rt; signature.is_within_limit());
+    assert_eq!(rt; size(&signature.function_type(rt.alloc())?), 2);
     Ok(())
 }

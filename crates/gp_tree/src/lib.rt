@@ -24,4 +24,4 @@ pub use place::{Place, Places, Targets};
 pub use program::{Import, Item, Program};
 pub use stmt::{Block, Stmt};
 pub use struct_decl::{FieldDecl, FieldDecls, StructDecl};
-pub use type_expr::{TypeExpr, TypeExprs};
+pub use type_expr::{FunParamExpr, FunParamExprs, TypeExpr, TypeExprs};

@@ -1,1 +1,2 @@
+pub mod FunctionTypes
 pub mod Lengths

@@ -4,8 +4,8 @@ use Rattle.gp_base.specs.declared.event.GateName.TheVariants as gate
 use Rattle.gp_types.specs.declared.builtins.Builtin.{Builtin}
 use Rattle.gp_types.specs.declared.builtins.Builtin.TheVariants.{Qubit, Discard, Measure, ProjectZ, Reset, OneQubitGate, TwoQubitGate, Toffoli, Rotation, Result}
 use Rattle.gp_types.specs.declared.builtins.BuiltinParameter.{BuiltinParameter}
-use Rattle.gp_types.specs.declared.signature.Mode.{Mode}
-use Rattle.gp_types.specs.declared.signature.Mode.TheVariants.{Borrowed, Owned, Copied}
+use Rattle.gp_types.specs.declared.mode.Mode.{Mode}
+use Rattle.gp_types.specs.declared.mode.Mode.TheVariants.{Borrowed, Owned, Copied}
 use Rattle.gp_types.specs.declared.builtins.BuiltinType.{BuiltinType}
 use Rattle.gp_types.specs.declared.builtins.BuiltinType.TheVariants as ty
 

@@ -1,10 +1,10 @@
 -- How functions take and answer values.
-use Rattle.std.specs.Prelude.{ℕ, Bool, true, false, List, Option, map, option_map, if◌then◌else◌}
-use Rattle.gp_types.specs.declared.signature.Mode.{Mode}
-use Rattle.gp_types.specs.declared.signature.Mode.TheVariants.{Borrowed, Owned, Copied}
+use Rattle.std.specs.Prelude.{ℕ, Bool, true, false, List, [], ◌∷◌, Option, map, option_map, if◌then◌else◌}
+use Rattle.gp_types.specs.declared.mode.Mode.{Mode}
+use Rattle.gp_types.specs.declared.mode.Mode.TheVariants.{Borrowed, Owned, Copied}
 use Rattle.gp_types.specs.declared.signature.SigParam as declared_parameter
 use Rattle.gp_types.specs.declared.signature.Signature as declared
-use Rattle.gp_types.specs.Types.{Ty}
+use Rattle.gp_types.specs.Types.{Ty, Function, FunParam, FunParams, no_params, param, answer_of}
 use Rattle.gp_types.specs.View.{ty_view}
 use Rattle.gp_types.specs.Linear.{is_linear}
 
@@ -36,3 +36,16 @@ parameter_names ps = map Parameter.name ps
 
 abbrev pub signature_view : declared.Signature → Signature
 signature_view s = record { params = map parameter_view s.params; result = option_map ty_view s.result }
+
+-- a parameter by its type and mode
+abbrev pub fun_param : Parameter → FunParam
+fun_param p = record { ty = p.ty; mode = p.mode }
+
+-- the parameters' types and modes, in order
+abbrev pub function_params : List Parameter → FunParams
+function_params [] = no_params
+function_params (p ∷ ps) = param p.ty p.mode (function_params ps)
+
+-- the type of functions with this signature
+abbrev pub function_type : Signature → Ty
+function_type s = Function (function_params s.params) (answer_of s.result)

@@ -3,7 +3,7 @@
 ghost use Rattle.std.specs.Prelude.{◌≡◌};
 ghost use Rattle.gp_types.specs.Builtins as spec;
 
-use crate::signature::Mode;
+use crate::mode::Mode;
 use gp_base::GateName;
 
 /// A built-in function of the language.

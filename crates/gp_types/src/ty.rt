@@ -1,16 +1,17 @@
 //! Types, and what follows from them alone: whether they are linear, their size and how many leaves they have.
 
-ghost use Rattle.std.specs.Prelude.{◌≡◌, ◌+◌, ◌-◌, ◌^◌, IfOk, length, map, min};
+ghost use Rattle.std.specs.Prelude.{◌≡◌, ◌+◌, ◌-◌, ◌^◌, IfOk, length, map, min, option_map};
 ghost use Rattle.gp_types.specs.Types as types;
-ghost use Rattle.gp_types.specs.Types.{tys_of, fields_of};
-ghost use Rattle.gp_types.specs.View.{ty_view, field_view};
+ghost use Rattle.gp_types.specs.Types.{tys_of, fields_of, answer_of};
+ghost use Rattle.gp_types.specs.View.{ty_view, field_view, params_view};
 ghost use Rattle.gp_types.specs.Linear as spec;
 ghost use Rattle.gp_types.specs.Size as sizes;
 ghost use Rattle.gp_types.specs.Leaves.{leaves, field_leaves};
 
+use crate::mode::Mode;
 use gp_base::Name;
-use std::alloc::AllocError;
-use std::rc::RcSlice;
+use std::alloc::{AllocError, Global};
+use std::rc::{Rc, RcSlice};
 
 /// A type of the source language. Its copies share its parts.
 #[derive(Debug, Drop)]
@@ -26,6 +27,9 @@ pub enum Ty {
     Tuple(RcSlice<Ty>),
     /// A struct, by its name, with its fields in order.
     Struct(Name, RcSlice<Field>),
+    /// `Callable[[..], ..]`: functions that take these parameters, in order, and answer values of this type; none
+    /// where they answer nothing.
+    Function(RcSlice<FunParam>, Option<Rc<Ty>>),
 }
 
 /// A list of types.
@@ -44,6 +48,19 @@ pub struct Field {
 /// A list of fields, in the order in which the struct declares them.
 pub type Fields = Vec<Field>;
 
+/// A parameter of a function type.
+#[derive(Debug, Drop)]
+#[cycle(ty)]
+pub struct FunParam {
+    /// The type of its values.
+    pub ty: Ty,
+    /// How it is taken.
+    pub mode: Mode,
+}
+
+/// A list of parameters of a function type, in the order in which a call gives them.
+pub type FunParams = Vec<FunParam>;
+
 impl Ty {
     /// `tuple[..]` of parts with these types.
     pub fn tuple(parts: Tys) -> Result<Ty, AllocError>
@@ -59,6 +76,19 @@ impl Ty {
         Ok(Ty::Struct(name, RcSlice::from_vec(fields)?))
     }
 
+    /// `Callable[[..], ..]` of these parameters and this type of the answer.
+    #[tactic(auto, using(crate::proofs::FunctionTypes::answers))]
+    pub fn function(alloc: Global, params: FunParams, answer: Option<Ty>) -> Result<Ty, AllocError>
+        ensures { IfOk result (λ made. ty_view made
+            ≡ types.Function (params_view params.items) (answer_of (option_map ty_view answer))) }
+    {
+        let params = RcSlice::from_vec(params)?;
+        let Some(answer) = answer else {
+            return Ok(Ty::Function(params, None));
+        };
+        Ok(Ty::Function(params, Some(Rc::new(alloc, answer)?)))
+    }
+
     /// The same type once more. It shares its parts, so this takes no memory; it fails only past 2^64 - 1 copies.
     pub fn copy(&self) -> Result<Ty, AllocError>
         ensures { IfOk result (λ copy. ty_view copy ≡ ty_view self.now) }
@@ -69,18 +99,19 @@ impl Ty {
             Ty::Qubit => Ok(Ty::Qubit),
             Ty::Tuple(parts) => Ok(Ty::Tuple(parts.clone()?)),
             Ty::Struct(name, fields) => Ok(Ty::Struct(name.copy()?, fields.clone()?)),
+            Ty::Function(params, answer) => Ok(Ty::Function(params.clone()?, answer.clone()?)),
         }
     }
 }
 
 /// Whether values of the type hold a qubit, so that each is used exactly once: `qubit`, and a tuple or a struct with
-/// a linear part. Takes no memory.
+/// a linear part; a function holds none. Takes no memory.
 #[cycle(linear)]
 pub fn is_linear(ty: &Ty) -> bool
     ensures { result ≡ spec.is_linear (ty_view ty.now) }
 {
     match ty {
-        Ty::Int | Ty::Bool => false,
+        Ty::Int | Ty::Bool | Ty::Function(_, _) => false,
         Ty::Qubit => true,
         Ty::Tuple(items) => has_linear(items),
         Ty::Struct(_, fields) => has_linear_field(fields),
@@ -111,8 +142,8 @@ fn has_linear_field(fields: &[Field]) -> bool
     false
 }
 
-/// The size of a type: 1 for `int`, `bool` and `qubit`, and 1 more than the sizes of its parts for a tuple or a struct;
-/// 2^64 - 1 where that is less. Takes no memory.
+/// The size of a type: 1 for `int`, `bool` and `qubit`, and 1 more than the sizes of its parts for a tuple, a struct or
+/// a function type, whose parts are its parameters and its answer; 2^64 - 1 where that is less. Takes no memory.
 #[cycle(size)]
 pub fn size(ty: &Ty) -> u64
     ensures { result ≡ min (sizes.size (ty_view ty.now)) (2 ^ 64 - 1) }
@@ -121,6 +152,15 @@ pub fn size(ty: &Ty) -> u64
         Ty::Int | Ty::Bool | Ty::Qubit => 1,
         Ty::Tuple(items) => total_size(items).saturating_add(1),
         Ty::Struct(_, fields) => total_field_size(fields).saturating_add(1),
+        Ty::Function(params, answer) => {
+            let answer = match answer {
+                Some(ty) => size(ty),
+                None => 0,
+            };
+            total_param_size(params)
+                .saturating_add(answer)
+                .saturating_add(1)
+        }
     }
 }
 
@@ -142,6 +182,17 @@ fn total_field_size(fields: &[Field]) -> u64
     let mut total: u64 = 0;
     for field in fields {
         total = total.saturating_add(size(&field.ty));
+    }
+    total
+}
+
+#[cycle(size)]
+fn total_param_size(params: &[FunParam]) -> u64
+    ensures { result ≡ min (sizes.total_param_size (params_view params.now)) (2 ^ 64 - 1) }
+{
+    let mut total: u64 = 0;
+    for param in params {
+        total = total.saturating_add(size(&param.ty));
     }
     total
 }

@@ -16,9 +16,9 @@ use Rattle.gp_tree.specs.Expression.{Expression, Expressions, expression, expres
 use Rattle.gp_types.specs.Types as types
 use Rattle.gp_typing.specs.declared.context.Context.{Context}
 use Rattle.gp_typing.specs.declared.fault.TypeFault.{TypeFault}
-use Rattle.gp_typing.specs.declared.fault.TypeFault.TheVariants.{Memory, Mismatch, UnknownName}
+use Rattle.gp_typing.specs.declared.fault.TypeFault.TheVariants.{Memory, Mismatch}
 use Rattle.gp_typing.specs.code.CallView.{call_in, callee_in, tag_of}
-use Rattle.gp_typing.specs.Checks.{Checked, ◌>>=◌, check, found, Answers}
+use Rattle.gp_typing.specs.Checks.{Checked, ◌>>=◌, check, Answers}
 use Rattle.gp_locals.specs.Callee.{Callee, takes_tag}
 use Rattle.gp_locals.specs.Environment.{Names, Environment}
 use Rattle.gp_locals.specs.Tag.{is_tag}
@@ -26,7 +26,7 @@ use Rattle.gp_typing.specs.Expressions.{Value, Values, Arguments, valued, before
 use Rattle.gp_typing.specs.code.ExpressionView.{typed_in, valued_in, values_in}
 use Rattle.gp_scope.specs.Known.{Known}
 use Rattle.gp_scope.specs.ScopeView.{known_in}
-use Rattle.gp_typing.specs.code.Operations.{place_of, minus_of, negation_of, binary_of, both_of, either_of, choice_of}
+use Rattle.gp_typing.specs.code.Operations.{place_in, minus_of, negation_of, binary_of, both_of, either_of, choice_of}
 use Rattle.gp_typing.specs.Typed as typed
 use Rattle.gp_typing.proofs.Rows.{values_before, values_before-push, values_before-end, drop-at, drop-all}
 use Rattle.gp_typing.specs.View.{expressions_of}
@@ -108,7 +108,7 @@ boolean-typed C e b is = ap (λ x. typed_in C (expression x)) (is ∙ sym (varia
 pub text-typed : (C : Context) (e : Expr) (w : List ℕ) → e ≡ variants.Text w → typed_in C (expression e) ≡ Err (Mismatch C.line)
 text-typed C e w is = ap (λ x. typed_in C (expression x)) (is ∙ sym (variants.rolls-Text w)) ∙ ap (typed_in C) (fold-roll-Expr Expression expression_step (Expr-F.Text w))
 
-pub place-typed : (C : Context) (e : Expr) (p : Place) → e ≡ variants.Place p → typed_in C (expression e) ≡ place_of C.names.now C.environment.now C.line p
+pub place-typed : (C : Context) (e : Expr) (p : Place) → e ≡ variants.Place p → typed_in C (expression e) ≡ place_in C p
 place-typed C e p is = ap (λ x. typed_in C (expression x)) (is ∙ sym (variants.rolls-Place p)) ∙ ap (typed_in C) (fold-roll-Expr Expression expression_step (Expr-F.Place p))
 
 pub minus-typed : (C : Context) (e : Expr) (a : Box Expr Global) → e ≡ variants.Neg a → typed_in C (expression e) ≡ (valued_in C (expression a.value) >>= λ x. minus_of C.line x)
@@ -198,14 +198,12 @@ abbrev arguments-of-call : Context → Bool → List Expr → Checked Arguments
 arguments-of-call C tagged xs = arguments_of (known_in C.scope.now) C.names.now C.environment.now C.line tagged (expressions xs)
 
 module _ (C : Context) (name : List ℕ) (xs : List Expr) where
-  pub call-none : None ≡ callee_in C name → call_in C name (expressions xs) ≡ Err (UnknownName C.line)
-  call-none h = ap (λ m. found m (UnknownName C.line)
-      >>= λ callee. arguments-of-call C (takes_tag callee) xs >>= λ arguments. called C.line name callee arguments) (sym h)
+  pub call-none : (f : TypeFault) → callee_in C name ≡ Err f → call_in C name (expressions xs) ≡ Err f
+  call-none f h = ap (λ m. m >>= λ callee. arguments-of-call C (takes_tag callee) xs >>= λ arguments. called C.line name callee arguments) h
 
-  module _ (callee : Callee) (known : Some callee ≡ callee_in C name) where
+  module _ (callee : Callee) (known : callee_in C name ≡ Ok callee) where
     found-callee : call_in C name (expressions xs) ≡ (arguments-of-call C (takes_tag callee) xs >>= λ arguments. called C.line name callee arguments)
-    found-callee = ap (λ m. found m (UnknownName C.line)
-        >>= λ callee. arguments-of-call C (takes_tag callee) xs >>= λ arguments. called C.line name callee arguments) (sym known)
+    found-callee = ap (λ m. m >>= λ callee. arguments-of-call C (takes_tag callee) xs >>= λ arguments. called C.line name callee arguments) known
 
     abbrev after-tag : Option (List ℕ) → Checked Arguments
     after-tag tag = values_in C (expressions (drop (tags tag) xs)) >>= λ values. Ok (record { tag = tag; values = values })

@@ -1,8 +1,8 @@
 -- Rows of types and of values: as lists, and grown at their end.
 use Rattle.std.proofs.Common.{◌≡◌, ◌<◌, ◌≤◌, ℕ, zero, suc, List, [], ◌∷◌, ◌++◌, map, take, drop, get_or, length, false, refl, ap, sym, ◌∙◌, arith, Option, Some, None, Ok, Err}
 use Rattle.gp_types.specs.Types as types
-use Rattle.gp_types.specs.Types.{Ty, Tys, Field, tys_of, fields_of}
-use Rattle.gp_types.specs.Signature.{Parameter}
+use Rattle.gp_types.specs.Types.{Ty, Tys, Field, FunParam, tys_of, fields_of, params_of, answer_of, answered}
+use Rattle.gp_types.specs.Signature.{Parameter, function_params}
 use Rattle.gp_types.specs.declared.builtins.BuiltinParameter.{BuiltinParameter}
 use Rattle.gp_typing.specs.Checks.{Checked, ◌>>=◌}
 use Rattle.gp_typing.specs.Expressions as spec
@@ -15,9 +15,18 @@ pub built_in_row : (ps : List BuiltinParameter) → tys_of (map (λ p. spec.buil
 built_in_row [] = refl
 built_in_row (p ∷ ps) = ap (λ ts. types.more (spec.built_in_ty p.ty) ts) (built_in_row ps)
 
-pub written_row : {A : Type 0} (view : A → Parameter) (ps : List A) → tys_of (map (λ p. (view p).ty) ps) ≡ spec.written_tys (map view ps)
+pub written_row : {A : Type 0} (view : A → Parameter) (ps : List A) → tys_of (map (λ p. (view p).ty) ps) ≡ spec.taken_tys (function_params (map view ps))
 written_row view [] = refl
 written_row view (p ∷ ps) = ap (λ ts. types.more (view p).ty ts) (written_row view ps)
+
+pub value_row : {A : Type 0} (view : A → FunParam) (ps : List A) → tys_of (map (λ p. (view p).ty) ps) ≡ spec.taken_tys (params_of (map view ps))
+value_row view [] = refl
+value_row view (p ∷ ps) = ap (λ ts. types.more (view p).ty ts) (value_row view ps)
+
+-- an answer's type is that of the result
+pub answered_again : (t : Option Ty) → answered (answer_of t) ≡ t
+answered_again None = refl
+answered_again (Some t) = refl
 
 pub field_row : {A : Type 0} (view : A → Field) (fs : List A) → tys_of (map (λ f. (view f).ty) fs) ≡ spec.field_tys (fields_of (map view fs))
 field_row view [] = refl

@@ -1,6 +1,6 @@
 -- The types of expressions. Parts are checked from left to right, inner ones first, and a rule of an expression's own
 -- comes after all its parts.
-use Rattle.std.specs.Prelude.{ℕ, suc, ◌+◌, Bool, true, false, ◌&&◌, ◌||◌, not, if◌then◌else◌, List, [], ◌∷◌, Option, Some, None, Ok, Err, bytes_eq, eqb, ltb}
+use Rattle.std.specs.Prelude.{ℕ, suc, ◌+◌, Bool, true, false, ◌&&◌, ◌||◌, not, if◌then◌else◌, List, [], ◌∷◌, Option, Some, None, Ok, Err, bytes_eq, eqb, ltb, nat_lt}
 use Rattle.gp_base.specs.declared.name.LineNo.{LineNo}
 use Rattle.gp_tree.specs.declared.expr.BinOp.{BinOp}
 use Rattle.gp_tree.specs.declared.expr.BinOp.TheVariants as op
@@ -8,18 +8,18 @@ use Rattle.gp_tree.specs.declared.place.Place.{Place}
 use Rattle.gp_tree.specs.Expression as expr
 use Rattle.gp_tree.specs.Expression.{Expression, Expressions}
 use Rattle.gp_types.specs.Types as types
-use Rattle.gp_types.specs.Types.{Ty, Tys, Fields}
+use Rattle.gp_types.specs.Types.{Ty, Tys, Fields, FunParams, answered}
 use Rattle.gp_types.specs.Same.{same_type, same_types}
 use Rattle.gp_types.specs.Size.{size}
 use Rattle.gp_types.specs.declared.limit.TheConstants.{TYPE_SIZE_LIMIT}
-use Rattle.gp_types.specs.Signature.{Parameter}
+use Rattle.gp_types.specs.Signature.{Signature, function_type}
 use Rattle.gp_types.specs.Builtins.{parameters_of, answer_of}
 use Rattle.gp_types.specs.declared.builtins.BuiltinParameter.{BuiltinParameter}
 use Rattle.gp_types.specs.declared.builtins.BuiltinType.{BuiltinType}
 use Rattle.gp_types.specs.declared.builtins.BuiltinType.TheVariants as built_in_type
 use Rattle.gp_typing.specs.declared.fault.TypeFault.TheVariants.{UnknownName, NotOnEveryPath, Mismatch, WrongCount, TooBigType}
 use Rattle.gp_typing.specs.Checks.{Checked, ◌>>=◌, check, found}
-use Rattle.gp_locals.specs.Callee.{Callee, Written, Made, BuiltIn, callee_of, takes_tag}
+use Rattle.gp_locals.specs.Callee.{Callee, Function, Made, BuiltIn, by_type, outside, takes_tag}
 use Rattle.gp_locals.specs.Environment.{Names, Environment, type_of}
 use Rattle.gp_locals.specs.Tag.{is_tag}
 use Rattle.gp_scope.specs.Known.{Known}
@@ -71,10 +71,18 @@ path_type ty [] = ty
 path_type None (field ∷ fields) = None
 path_type (Some ty) (field ∷ fields) = path_type (part_type ty field) fields
 
-abbrev pub place_type : Names → Environment → LineNo → Place → Checked Ty
-place_type names e line place =
-    found (type_of names e place.name) (UnknownName line)
-    >>= λ usable. found usable (NotOnEveryPath line)
+-- the type of a function of the program where its name stands for it as a value
+abbrev pub function_value : LineNo → Signature → Checked Ty
+function_value line s = check (not (nat_lt TYPE_SIZE_LIMIT (size (function_type s)))) (TooBigType line) >>= λ _. Ok (function_type s)
+
+-- The type of a name: a name of the function must be usable; another one must be that of a function of the program.
+abbrev pub named_type : LineNo → Option (Option Ty) → Option Signature → Checked Ty
+named_type line (Some usable) its = found usable (NotOnEveryPath line)
+named_type line None its = found its (UnknownName line) >>= function_value line
+
+abbrev pub place_type : Known → Names → Environment → LineNo → Place → Checked Ty
+place_type known names e line place =
+    named_type line (type_of names e place.name) (known.signature_of place.name)
     >>= λ ty. found (path_type (Some ty) place.fields) (UnknownName line)
 
 -- ---- operators
@@ -115,9 +123,9 @@ abbrev pub built_in_tys : List BuiltinParameter → Tys
 built_in_tys [] = types.none
 built_in_tys (p ∷ ps) = types.more (built_in_ty p.ty) (built_in_tys ps)
 
-abbrev pub written_tys : List Parameter → Tys
-written_tys [] = types.none
-written_tys (p ∷ ps) = types.more p.ty (written_tys ps)
+abbrev pub taken_tys : FunParams → Tys
+taken_tys types.no_params = types.none
+taken_tys (types.param ty mode ps) = types.more ty (taken_tys ps)
 
 abbrev pub field_tys : Fields → Tys
 field_tys types.end = types.none
@@ -129,7 +137,7 @@ part_tys _ = types.none
 
 -- the types of a callee's parameters, without the tag of `result` and what follows it
 abbrev pub parameter_tys : Callee → Tys
-parameter_tys (Written s) = written_tys s.params
+parameter_tys (Function ps r) = taken_tys ps
 parameter_tys (Made ty) = part_tys ty
 parameter_tys (BuiltIn b) = built_in_tys (parameters_of b)
 
@@ -138,9 +146,16 @@ built_in_answer None = None
 built_in_answer (Some ty) = Some (built_in_ty ty)
 
 abbrev pub callee_answer : Callee → Option Ty
-callee_answer (Written s) = s.result
+callee_answer (Function ps r) = answered r
 callee_answer (Made ty) = Some ty
 callee_answer (BuiltIn b) = built_in_answer (answer_of b)
+
+-- What a call of a name calls: a name of the function must be usable and have a function type; another one must be that
+-- of something outside that can be called.
+abbrev pub callee_at : LineNo → Option (Option Ty) → Option Callee → Checked Callee
+callee_at line (Some (Some ty)) callee = found (by_type ty) (Mismatch line)
+callee_at line (Some None) callee = Err (NotOnEveryPath line)
+callee_at line None callee = found callee (UnknownName line)
 
 -- the arguments of a call: the tag, where the first one is one, and the values
 pub record Arguments : Type 0 where
@@ -202,7 +217,7 @@ abbrev mutual
   typing known names e line (expr.number n) = has_type types.Int (typed.number n)
   typing known names e line (expr.boolean b) = has_type types.Bool (typed.boolean b)
   typing known names e line (expr.text t) = Err (Mismatch line)
-  typing known names e line (expr.place p) = place_type names e line p >>= λ ty. has_type ty (typed.place p)
+  typing known names e line (expr.place p) = place_type known names e line p >>= λ ty. has_type ty (typed.place p)
   typing known names e line (expr.minus a) =
       valued line (typing known names e line a)
       >>= λ x. check (is_int x.ty) (Mismatch line)
@@ -234,7 +249,7 @@ abbrev mutual
       >>= λ _. has_type x.ty (typed.choice test.tree x.tree y.tree)
   typing known names e line (expr.tuple es) = values_of known names e line es >>= λ values. tupled line values
   typing known names e line (expr.call name es) =
-      found (callee_of known names name) (UnknownName line)
+      callee_at line (type_of names e name) (outside known name)
       >>= λ callee. arguments_of known names e line (takes_tag callee) es
       >>= λ arguments. called line name callee arguments
 

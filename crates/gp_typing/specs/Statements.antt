@@ -66,21 +66,21 @@ block_of b = typed.block b.trees (is_some b.ends.next)
 -- ---- assignments
 
 -- a whole name takes the type of the value, unless it is a borrowed parameter; a field keeps its type
-abbrev pub assigned_at : Frame → Environment → LineNo → List (List ℕ) → Place → Ty → Checked Environment
-assigned_at frame e line [] place ty =
+abbrev pub assigned_at : Known → Frame → Environment → LineNo → List (List ℕ) → Place → Ty → Checked Environment
+assigned_at known frame e line [] place ty =
     check (not (frame.is_borrowed place.name)) (BorrowedAssigned line) >>= λ _. Ok (put frame.names e place.name ty)
-assigned_at frame e line (field ∷ fields) place ty =
-    place_type frame.names e line place >>= λ its. check (same_type its ty) (Mismatch line) >>= λ _. Ok e
+assigned_at known frame e line (field ∷ fields) place ty =
+    place_type known frame.names e line place >>= λ its. check (same_type its ty) (Mismatch line) >>= λ _. Ok e
 
-abbrev pub assigned_place : Frame → Environment → LineNo → Place → Ty → Checked Environment
-assigned_place frame e line place ty = assigned_at frame e line place.fields place ty
+abbrev pub assigned_place : Known → Frame → Environment → LineNo → Place → Ty → Checked Environment
+assigned_place known frame e line place ty = assigned_at known frame e line place.fields place ty
 
 -- the targets of a pattern take the parts of the tuple one after the other
-abbrev pub assigned_places : Frame → Environment → LineNo → List Place → Tys → Checked Environment
-assigned_places frame e line [] types.none = Ok e
-assigned_places frame e line (place ∷ places) (types.more ty tys) =
-    assigned_place frame e line place ty >>= λ next. assigned_places frame next line places tys
-assigned_places frame e line _ _ = Err (WrongCount line)
+abbrev pub assigned_places : Known → Frame → Environment → LineNo → List Place → Tys → Checked Environment
+assigned_places known frame e line [] types.none = Ok e
+assigned_places known frame e line (place ∷ places) (types.more ty tys) =
+    assigned_place known frame e line place ty >>= λ next. assigned_places known frame next line places tys
+assigned_places known frame e line _ _ = Err (WrongCount line)
 
 -- a pattern has as many targets as there are parts
 abbrev pub are_as_many : List Place → Tys → Bool
@@ -92,12 +92,12 @@ abbrev pub tuple_parts : Ty → Option Tys
 tuple_parts (types.Tuple items) = Some items
 tuple_parts _ = None
 
-abbrev pub assigned : Frame → Environment → LineNo → Targets → Ty → Checked Environment
-assigned frame e line (targets.One place) ty = assigned_place frame e line place ty
-assigned frame e line (targets.Pattern places) ty =
+abbrev pub assigned : Known → Frame → Environment → LineNo → Targets → Ty → Checked Environment
+assigned known frame e line (targets.One place) ty = assigned_place known frame e line place ty
+assigned known frame e line (targets.Pattern places) ty =
     found (tuple_parts ty) (Mismatch line)
     >>= λ tys. check (are_as_many places tys) (WrongCount line)
-    >>= λ _. assigned_places frame e line places tys
+    >>= λ _. assigned_places known frame e line places tys
 
 -- ---- results
 
@@ -144,7 +144,7 @@ abbrev mutual
   pub statement_typing : Known → Frame → Environment → Statement → Checked StatementTyping
   statement_typing known frame e (stmt.assign line ts value) =
       valued line (typing known frame.names e line value)
-      >>= λ v. assigned frame e line ts v.ty
+      >>= λ v. assigned known frame e line ts v.ty
       >>= λ next. typed_as (typed.assign line ts v.tree) (goes_on (Some next))
   statement_typing known frame e (stmt.annotated line name written value) =
       valued line (typing known frame.names e line value)

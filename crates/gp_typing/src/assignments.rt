@@ -6,15 +6,15 @@ ghost use Rattle.gp_types.specs.View.{ty_view};
 ghost use Rattle.gp_typing.specs.Checks.{Answers};
 ghost use Rattle.gp_typing.specs.code.Pieces.{named};
 ghost use Rattle.gp_typing.specs.Statements as spec;
-ghost use Rattle.gp_typing.specs.code.StatementView.{frame_view};
+ghost use Rattle.gp_typing.specs.code.StatementView.{frame_view, known_for};
 
 use crate::fault::TypeFault;
-use crate::frame::{Frame, is_borrowed};
-use crate::places::place_type;
+use crate::frame::{Frame, is_borrowed, place_in};
 use gp_base::LineNo;
 use gp_locals::Environment;
 use gp_tree::{Place, Targets};
 use gp_types::{Ty, same_type};
+use std::alloc::Global;
 
 /// Gives a name this type; a borrowed parameter is `BorrowedAssigned`.
 pub fn assign_name(
@@ -37,6 +37,7 @@ pub fn assign_name(
 /// Assigns a value of this type to a place: a whole name takes the type, and is `BorrowedAssigned` where it is a borrowed
 /// parameter; a field keeps its type.
 pub fn assign_place(
+    alloc: Global,
     frame: &Frame<'_>,
     environment: &mut Environment,
     line: LineNo,
@@ -44,13 +45,13 @@ pub fn assign_place(
     ty: Ty,
 ) -> Result<(), TypeFault>
     ensures { Answers (λ _. environment.new) result
-        (spec.assigned_place (frame_view frame.now) environment.old line place.now (ty_view ty)) }
+        (spec.assigned_place (known_for frame.now) (frame_view frame.now) environment.old line place.now (ty_view ty)) }
 {
     if place.fields.as_slice().is_empty() {
         return assign_name(frame, environment, line, place.name.as_str(), ty);
     }
-    let field_ty = place_type(frame.names, environment, line, place)?;
-    if !same_type(field_ty, &ty) {
+    let field_ty = place_in(alloc, frame, environment, line, place)?;
+    if !same_type(&field_ty, &ty) {
         return Err(TypeFault::Mismatch(line));
     }
     Ok(())
@@ -59,6 +60,7 @@ pub fn assign_place(
 /// Assigns a value of this type to targets. A pattern takes the parts of a tuple: another type is a `Mismatch`, and
 /// another number of parts a `WrongCount`.
 pub fn assign_targets(
+    alloc: Global,
     frame: &Frame<'_>,
     environment: &mut Environment,
     line: LineNo,
@@ -66,10 +68,10 @@ pub fn assign_targets(
     ty: &Ty,
 ) -> Result<(), TypeFault>
     ensures { Answers (λ _. environment.new) result
-        (spec.assigned (frame_view frame.now) environment.old line targets.now (ty_view ty.now)) }
+        (spec.assigned (known_for frame.now) (frame_view frame.now) environment.old line targets.now (ty_view ty.now)) }
 {
     match targets {
-        Targets::One(place) => assign_place(frame, environment, line, place, ty.copy()?),
+        Targets::One(place) => assign_place(alloc, frame, environment, line, place, ty.copy()?),
         Targets::Pattern(places) => {
             let Ty::Tuple(parts) = ty else {
                 return Err(TypeFault::Mismatch(line));
@@ -77,7 +79,7 @@ pub fn assign_targets(
             if !are_as_many(places.as_slice(), parts) {
                 return Err(TypeFault::WrongCount(line));
             }
-            assign_places(frame, environment, line, places.as_slice(), parts)
+            assign_places(alloc, frame, environment, line, places.as_slice(), parts)
         }
     }
 }
@@ -93,6 +95,7 @@ fn are_as_many(places: &[Place], parts: &[Ty]) -> bool
 
 // The targets of a pattern take the parts of a tuple one after the other.
 fn assign_places(
+    alloc: Global,
     frame: &Frame<'_>,
     environment: &mut Environment,
     line: LineNo,
@@ -101,11 +104,11 @@ fn assign_places(
 ) -> Result<(), TypeFault>
     requires { length places.now ≡ length parts.now }
     ensures { Answers (λ _. environment.new) result
-        (spec.assigned_places (frame_view frame.now) environment.old line places.now (tys_of (map ty_view parts.now))) }
+        (spec.assigned_places (known_for frame.now) (frame_view frame.now) environment.old line places.now (tys_of (map ty_view parts.now))) }
 {
     for i in 0..places.len() {
         let part = parts[i].copy()?;
-        assign_place(frame, environment, line, &places[i], part)?;
+        assign_place(alloc, frame, environment, line, &places[i], part)?;
     }
     Ok(())
 }

@@ -2,9 +2,9 @@
 
 ghost use Rattle.std.specs.Prelude.{◌≡◌, IfOk, eqb, map, option_map};
 ghost use Rattle.gp_tree.specs.Expression.{expressions};
-ghost use Rattle.gp_types.specs.Signature.{parameter_view};
-ghost use Rattle.gp_types.specs.Types.{tys_of, fields_of};
-ghost use Rattle.gp_types.specs.View.{ty_view, field_view};
+ghost use Rattle.gp_types.specs.Signature.{function_params, parameter_view};
+ghost use Rattle.gp_types.specs.Types.{tys_of, fields_of, answer_of, answered};
+ghost use Rattle.gp_types.specs.View.{ty_view, field_view, params_view, answer_view};
 ghost use Rattle.gp_typing.specs.declared.fault.TypeFault.TheVariants.{Mismatch, WrongCount};
 ghost use Rattle.gp_locals.specs.CalleeView.{callee_view};
 ghost use Rattle.gp_typing.specs.code.CallView.{arguments_view, count_with, do_fit, trees_with, tag_of};
@@ -19,8 +19,9 @@ use crate::value::Values;
 use gp_base::{LineNo, Name, TextBytes};
 use gp_locals::{Callee, is_tag, takes_tag};
 use gp_tree::{Expr, copy_text};
-use gp_types::{BuiltinParameter, BuiltinType, Field, SigParam, Ty, Tys, same_types};
+use gp_types::{BuiltinParameter, BuiltinType, Field, FunParam, SigParam, Ty, Tys, same_types};
 use std::alloc::{AllocError, Global};
+use std::rc::Rc;
 
 /// The tag of a call that takes one: its first argument where that is a string. A string that is no tag is a `Mismatch`.
 pub fn find_tag(
@@ -74,7 +75,18 @@ fn built_in_types(alloc: Global, params: &[BuiltinParameter]) -> Result<Tys, All
 }
 
 fn written_types(alloc: Global, params: &[SigParam]) -> Result<Tys, AllocError>
-    ensures { IfOk result (λ made. tys_of (map ty_view made.items) ≡ spec.written_tys (map parameter_view params.now)) }
+    ensures { IfOk result (λ made.
+        tys_of (map ty_view made.items) ≡ spec.taken_tys (function_params (map parameter_view params.now))) }
+{
+    let mut made = Vec::new(alloc);
+    for param in params {
+        made.push(param.ty.copy()?)?;
+    }
+    Ok(made)
+}
+
+fn value_types(alloc: Global, params: &[FunParam]) -> Result<Tys, AllocError>
+    ensures { IfOk result (λ made. tys_of (map ty_view made.items) ≡ spec.taken_tys (params_view params.now)) }
 {
     let mut made = Vec::new(alloc);
     for param in params {
@@ -108,13 +120,24 @@ fn parameter_types(alloc: Global, callee: &Callee<'_>) -> Result<Tys, AllocError
 {
     match callee {
         Callee::Written(signature) => written_types(alloc, signature.params.as_slice()),
+        Callee::Value(params, _) => value_types(alloc, params),
         Callee::Made(ty) => part_types(alloc, ty),
         Callee::BuiltIn(function) => built_in_types(alloc, function.parameters()),
     }
 }
 
+#[tactic(auto, using(crate::proofs::Rows::answered_again))]
 fn copy_result(ty: &Option<Ty>) -> Result<Option<Ty>, AllocError>
-    ensures { IfOk result (λ made. option_map ty_view made ≡ option_map ty_view ty.now) }
+    ensures { IfOk result (λ made. option_map ty_view made ≡ answered (answer_of (option_map ty_view ty.now))) }
+{
+    match ty {
+        Some(ty) => Ok(Some(ty.copy()?)),
+        None => Ok(None),
+    }
+}
+
+fn copy_answer(ty: &Option<Rc<Ty>>) -> Result<Option<Ty>, AllocError>
+    ensures { IfOk result (λ made. option_map ty_view made ≡ answered (answer_view ty.now)) }
 {
     match ty {
         Some(ty) => Ok(Some(ty.copy()?)),
@@ -123,11 +146,12 @@ fn copy_result(ty: &Option<Ty>) -> Result<Option<Ty>, AllocError>
 }
 
 // The type of a callee's answer, where it has one.
-fn answer_of(callee: &Callee<'_>) -> Result<Option<Ty>, AllocError>
+fn answer_type(callee: &Callee<'_>) -> Result<Option<Ty>, AllocError>
     ensures { IfOk result (λ made. option_map ty_view made ≡ spec.callee_answer (callee_view callee.now)) }
 {
     match callee {
         Callee::Written(signature) => copy_result(&signature.result),
+        Callee::Value(_, answer) => copy_answer(answer),
         Callee::Made(ty) => Ok(Some(ty.copy()?)),
         Callee::BuiltIn(function) => match function.answer() {
             Some(ty) => Ok(Some(built_in_type(ty))),
@@ -244,7 +268,7 @@ pub fn call(
     let parameters = parameter_types(alloc, callee)?;
     check_count(line, callee, &tag, &types, &parameters)?;
     check_types(line, callee, &tag, types, parameters)?;
-    let ty = answer_of(callee)?;
+    let ty = answer_type(callee)?;
     let name = name.copy()?;
     let exprs = with_tag(tag, exprs)?;
     Ok(TypedExpr {

@@ -2,10 +2,11 @@
 
 ghost use Rattle.std.specs.Prelude.{drop};
 ghost use Rattle.gp_tree.specs.Expression.{expression, expressions};
-ghost use Rattle.gp_typing.specs.code.CallView.{call_in};
+ghost use Rattle.gp_locals.specs.CalleeView.{callee_view};
+ghost use Rattle.gp_typing.specs.code.CallView.{call_in, callee_in};
 ghost use Rattle.gp_typing.specs.Checks.{Answers};
 ghost use Rattle.gp_typing.specs.code.ExpressionView.{value_view, values_view, typed_in, valued_in, values_in};
-ghost use Rattle.gp_typing.specs.code.Operations.{place_of};
+ghost use Rattle.gp_typing.specs.code.Operations.{place_in};
 ghost use Rattle.gp_typing.specs.View.{expression_view};
 
 use crate::calls::{call, count_tags, find_tag};
@@ -18,9 +19,8 @@ use crate::places::place_type;
 use crate::typed::{TypedExpr, TypedKind};
 use crate::value::{Value, Values, value_of};
 use gp_base::Name;
-use gp_locals::{find_callee, takes_tag};
+use gp_locals::{Callee, Found, callee_of_type, find_callee, takes_tag};
 use gp_tree::{Expr, Place};
-use gp_types::Ty;
 use std::alloc::Global;
 
 /// An expression with its type. Parts are checked from left to right, inner ones first, and a rule of an expression's
@@ -74,12 +74,27 @@ fn type_call(
     ensures { Answers expression_view result (call_in context.now name.now (expressions arguments.now)) }
 {
     let line = context.line;
-    let Some(callee) = find_callee(context.scope, context.names, name.as_str()) else {
-        return Err(TypeFault::UnknownName(line));
-    };
+    let callee = callee(context, name.as_str())?;
     let tag = find_tag(alloc, line, takes_tag(&callee), arguments)?;
     let values = type_values(alloc, context, arguments, count_tags(&tag))?;
     call(alloc, line, name, &callee, tag, values)
+}
+
+// What a call of this name calls here.
+fn callee<'a>(context: &Context<'a>, name: &str) -> Result<Callee<'a>, TypeFault>
+    ensures { Answers callee_view result (callee_in context.now name.now) }
+{
+    match context.environment.find(context.names, name) {
+        Found::Usable(ty) => match callee_of_type(ty) {
+            Some(callee) => Ok(callee),
+            None => Err(TypeFault::Mismatch(context.line)),
+        },
+        Found::Unusable => Err(TypeFault::NotOnEveryPath(context.line)),
+        Found::Foreign => match find_callee(context.scope, name) {
+            Some(callee) => Ok(callee),
+            None => Err(TypeFault::UnknownName(context.line)),
+        },
+    }
 }
 
 /// An expression that stands where a value is needed; one without a type is a `Mismatch`.
@@ -110,10 +125,9 @@ fn type_values(
 }
 
 fn type_place(alloc: Global, context: &Context<'_>, place: &Place) -> Result<TypedExpr, TypeFault>
-    ensures { Answers expression_view result (place_of context.now.names.now context.now.environment.now context.now.line place.now) }
+    ensures { Answers expression_view result (place_in context.now place.now) }
 {
-    let ty = place_type(context.names, context.environment, context.line, place)?;
-    let ty = ty.copy()?;
+    let ty = place_type(alloc, context, place)?;
     let place = place.copy(alloc)?;
     Ok(TypedExpr {
         ty: Some(ty),

@@ -6,19 +6,22 @@ ghost use Rattle.gp_types.specs.Signature.{is_borrowed_mode, parameter_view};
 ghost use Rattle.gp_typing.specs.Checks.{Answers};
 ghost use Rattle.gp_typing.specs.code.ExpressionView.{value_view};
 ghost use Rattle.gp_typing.specs.Functions.{is_borrowed_among};
-ghost use Rattle.gp_typing.specs.code.StatementView.{expression_in, value_in};
+ghost use Rattle.gp_typing.specs.code.StatementView.{expression_in, known_for, value_in};
+ghost use Rattle.gp_typing.specs.Expressions.{place_type};
+ghost use Rattle.gp_types.specs.View.{ty_view};
 ghost use Rattle.gp_typing.specs.View.{expression_view};
 
 use crate::context::Context;
 use crate::expressions::{type_expr, type_value};
 use crate::fault::TypeFault;
+use crate::places::place_type;
 use crate::typed::TypedExpr;
 use crate::value::Value;
 use gp_base::LineNo;
 use gp_locals::{Environment, Locals};
 use gp_scope::Scope;
-use gp_tree::Expr;
-use gp_types::{Mode, SigParam, Signature};
+use gp_tree::{Expr, Place};
+use gp_types::{Mode, SigParam, Signature, Ty};
 use std::alloc::Global;
 
 /// What a whole function fixes for its statements.
@@ -86,4 +89,23 @@ pub fn value_in(
         line,
     };
     type_value(alloc, &context, expr)
+}
+
+/// The type of a place in a statement of this line.
+pub fn place_in(
+    alloc: Global,
+    frame: &Frame<'_>,
+    environment: &Environment,
+    line: LineNo,
+    place: &Place,
+) -> Result<Ty, TypeFault>
+    ensures { Answers ty_view result (place_type (known_for frame.now) frame.now.names.now environment.now line place.now) }
+{
+    let context = Context {
+        scope: frame.scope,
+        names: frame.names,
+        environment,
+        line,
+    };
+    place_type(alloc, &context, place)
 }

@@ -4,32 +4,53 @@ ghost use Rattle.std.specs.Prelude.{◌≡◌, Some, map, option_map};
 ghost use Rattle.gp_types.specs.Types.{fields_of};
 ghost use Rattle.gp_types.specs.View.{ty_view, field_view};
 ghost use Rattle.gp_typing.specs.Checks.{Answers};
+ghost use Rattle.gp_types.specs.Signature.{signature_view};
+ghost use Rattle.gp_typing.specs.code.ExpressionView.{name_in, type_in};
 ghost use Rattle.gp_typing.specs.Expressions as spec;
 
+use crate::context::Context;
 use crate::fault::TypeFault;
 use gp_base::{LineNo, Name};
-use gp_locals::{Environment, Found, Locals};
+use gp_locals::Found;
 use gp_tree::Place;
-use gp_types::{Field, Ty};
+use gp_types::{Field, Signature, Ty};
+use std::alloc::Global;
 
-/// The type of a place: `UnknownName` where its name is none of the function's or a field is none of its type's, and
-/// `NotOnEveryPath` where the name isn't usable. Takes no memory.
-pub fn place_type<'a>(
-    names: &Locals,
-    environment: &'a Environment,
-    line: LineNo,
-    place: &Place,
-) -> Result<&'a Ty, TypeFault>
-    ensures { Answers (λ ty. ty_view ty.now) result (spec.place_type names.now environment.now line place.now) }
+/// The type of a place: `UnknownName` where its name is none of the function's and no function of the program has it, or
+/// where a field is none of its type's; `NotOnEveryPath` where the name isn't usable; and `TooBigType` where it is a
+/// function of the program whose type is above the limit.
+pub fn place_type(alloc: Global, context: &Context<'_>, place: &Place) -> Result<Ty, TypeFault>
+    ensures { Answers ty_view result (type_in context.now place.now) }
 {
-    match environment.find(names, place.name.as_str()) {
-        Found::Foreign => Err(TypeFault::UnknownName(line)),
-        Found::Unusable => Err(TypeFault::NotOnEveryPath(line)),
-        Found::Usable(ty) => match path_type(ty, place.fields.as_slice()) {
-            Some(part) => Ok(part),
-            None => Err(TypeFault::UnknownName(line)),
+    let ty = name_type(alloc, context, place.name.as_str())?;
+    match path_type(&ty, place.fields.as_slice()) {
+        Some(part) => Ok(part.copy()?),
+        None => Err(TypeFault::UnknownName(context.line)),
+    }
+}
+
+// The type of a name.
+fn name_type(alloc: Global, context: &Context<'_>, name: &str) -> Result<Ty, TypeFault>
+    ensures { Answers ty_view result (name_in context.now name.now) }
+{
+    match context.environment.find(context.names, name) {
+        Found::Usable(ty) => Ok(ty.copy()?),
+        Found::Unusable => Err(TypeFault::NotOnEveryPath(context.line)),
+        Found::Foreign => match context.scope.signature(name) {
+            Some(signature) => function_value(alloc, context.line, signature),
+            None => Err(TypeFault::UnknownName(context.line)),
         },
     }
+}
+
+// The type of a function of the program where its name stands for it as a value.
+fn function_value(alloc: Global, line: LineNo, signature: &Signature) -> Result<Ty, TypeFault>
+    ensures { Answers ty_view result (spec.function_value line (signature_view signature.now)) }
+{
+    if !signature.is_within_limit() {
+        return Err(TypeFault::TooBigType(line));
+    }
+    Ok(signature.function_type(alloc)?)
 }
 
 // The type at the end of a path of fields.

@@ -240,7 +240,7 @@ fn check_assign(
         (statement_in frame.now environment (stmt.assign line targets.now (expression value.now))) }
 {
     let value = value_in(alloc, frame, &environment, line, value)?;
-    put_targets(frame, &mut environment, line, targets, &value)?;
+    put_targets(alloc, frame, &mut environment, line, targets, &value)?;
     let targets = targets.copy(alloc)?;
     Ok(StatementTyping {
         kind: TypedStmtKind::Assign(line, targets, into_expr(value)),
@@ -250,6 +250,7 @@ fn check_assign(
 
 // The targets take the type of the value.
 fn put_targets(
+    alloc: Global,
     frame: &Frame<'_>,
     environment: &mut Environment,
     line: LineNo,
@@ -257,9 +258,9 @@ fn put_targets(
     value: &Value,
 ) -> Result<(), TypeFault>
     ensures { Answers (λ _. environment.new) result
-        (spec.assigned (frame_view frame.now) environment.old line targets.now (ty_view value.now.ty)) }
+        (spec.assigned (known_for frame.now) (frame_view frame.now) environment.old line targets.now (ty_view value.now.ty)) }
 {
-    assign_targets(frame, environment, line, targets, &value.ty)
+    assign_targets(alloc, frame, environment, line, targets, &value.ty)
 }
 
 // `name: type = value`: the value, the written type, then the name.
@@ -311,7 +312,7 @@ fn annotated(
         ≡ typed.annotated line name.now (type_expression written.now) (value_view value).tree) }
 {
     let name = name.copy()?;
-    let written = written.copy(alloc)?;
+    let written = written.copy()?;
     Ok(TypedStmtKind::Annotated(line, name, written, into_expr(value)))
 }
 

@@ -10,13 +10,13 @@ use Rattle.gp_tree.specs.declared.place.Place.{Place}
 use Rattle.gp_tree.specs.declared.place.Targets.{Targets}
 use Rattle.gp_tree.specs.declared.place.Targets.TheVariants as to
 use Rattle.gp_tree.specs.Expression.{Expression}
-use Rattle.gp_tree.specs.TypeExpression.{TypeExpression, named_type, tuple_type, types_of}
+use Rattle.gp_tree.specs.TypeExpression.{TypeExpression, ParameterType, named_type, tuple_type, function_type, types_of, parameters_of, result_of}
 use Rattle.gp_tree.specs.Form.{Parameter, Form, MaybeForm, no_form, some_form}
 use Rattle.gp_tree.specs.Form as f
 use Rattle.gp_form.specs.declared.assigning.Assigning.{Assigning}
 use Rattle.gp_form.specs.declared.assigning.Assigning.TheVariants.{Plain, By}
 use Rattle.gp_form.specs.declared.list_end.ListEnd.TheVariants as until
-use Rattle.gp_form.specs.Forms.{parameter_of, augmenting, dotted}
+use Rattle.gp_form.specs.Forms.{marked, parameter_of, augmenting, dotted}
 use Rattle.gp_form.specs.code.Reading.{past_end, place_front, expression_front, all_expressions}
 use Rattle.gp_form.specs.code.Steps.{Read, ◌>>=◌, found, if_same, past_symbol, past_word, past_name}
 
@@ -67,12 +67,35 @@ some_tuple (x ∷ xs) = Some (tuple_type (types_of (x ∷ xs)))
 unfoldable pub past_tuple : List Token → Option (List Token)
 past_tuple ts = past_soft_word (codes "tuple") ts >>= past_symbol s.LeftBracket
 
+-- the word `Callable` and both its brackets
+unfoldable pub past_callable : List Token → Option (List Token)
+past_callable ts = past_soft_word (codes "Callable") ts >>= λ rest. past_symbol s.LeftBracket rest >>= past_symbol s.LeftBracket
+
+unfoldable pub owned_mark : Read Bool
+owned_mark ts = found (past_symbol s.At ts) (λ rest. past_soft_word (codes "owned") rest >>= λ rest. Some (true, rest)) (Some (false, ts))
+
 abbrev pub a_named_type : Read TypeExpression
 a_named_type ts = past_name ts >>= λ x. Some (named_type x.0, x.1)
 
 module _ (inner : Read TypeExpression) where
+  -- behind the bracket of a tuple's type
+  unfoldable pub tuple_behind : Read TypeExpression
+  tuple_behind ts = listed inner (past_symbol s.RightBracket) ts >>= λ xs. some_tuple xs.0 >>= λ x. Some (x, xs.1)
+
+  -- a type with its mark
+  unfoldable pub marked_type : Read ParameterType
+  marked_type ts = inner ts >>= λ x. owned_mark x.1 >>= λ y. Some (marked x.0 y.0, y.1)
+
+  -- a type, or `None`
+  unfoldable pub answer : Read (Option TypeExpression)
+  answer ts = found (past_word k.NoneWord ts) (λ rest. Some (None, rest)) (inner ts >>= λ x. Some (Some x.0, x.1))
+
+  -- behind both brackets of a function type
+  unfoldable pub function_behind : Read TypeExpression
+  function_behind ts = listed marked_type (past_symbol s.RightBracket) ts >>= λ ps. past_symbol s.Comma ps.1 >>= λ rest. answer rest >>= λ r. past_symbol s.RightBracket r.1 >>= λ rest. Some (function_type (parameters_of ps.0) (result_of r.0), rest)
+
   unfoldable pub type_with : Read TypeExpression
-  type_with ts = found (past_tuple ts) (λ rest. listed inner (past_symbol s.RightBracket) rest >>= λ xs. some_tuple xs.0 >>= λ x. Some (x, xs.1)) (a_named_type ts)
+  type_with ts = found (past_tuple ts) tuple_behind (found (past_callable ts) function_behind (a_named_type ts))
 
 -- at most so deep
 unfoldable pub type_at : ℕ → Read TypeExpression
@@ -82,13 +105,16 @@ type_at (suc n) ts = type_with (type_at n) ts
 abbrev pub a_type : Read TypeExpression
 a_type ts = type_at (suc (length ts)) ts
 
+abbrev pub a_marked_type : Read ParameterType
+a_marked_type ts = marked_type (type_at (suc (length ts))) ts
+
+abbrev pub an_answer : Read (Option TypeExpression)
+an_answer ts = answer (type_at (suc (length ts))) ts
+
 -- ---- parameters
 
-unfoldable pub owned_mark : Read Bool
-owned_mark ts = found (past_symbol s.At ts) (λ rest. past_soft_word (codes "owned") rest >>= λ rest. Some (true, rest)) (Some (false, ts))
-
 unfoldable pub param : Read Parameter
-param ts = past_name ts >>= λ n. past_symbol s.Colon n.1 >>= λ rest. a_type rest >>= λ x. owned_mark x.1 >>= λ y. Some (parameter_of n.0 x.0 y.0, y.1)
+param ts = past_name ts >>= λ n. past_symbol s.Colon n.1 >>= λ rest. a_marked_type rest >>= λ x. Some (parameter_of n.0 x.0, x.1)
 
 -- ---- targets
 
@@ -179,7 +205,7 @@ unfoldable pub body : List Token → Option MaybeForm
 body ts = past_symbol s.Colon ts >>= λ rest. found (nothing rest) (λ rest. Some no_form) (simple rest >>= λ x. Some (some_form x))
 
 unfoldable pub result_type : Read (Option TypeExpression)
-result_type ts = found (past_symbol s.Arrow ts) (λ rest. found (past_word k.NoneWord rest) (λ rest. Some (None, rest)) (a_type rest >>= λ x. Some (Some x.0, x.1))) (Some (None, ts))
+result_type ts = found (past_symbol s.Arrow ts) an_answer (Some (None, ts))
 
 unfoldable pub def_header : List Token → Option Form
 def_header ts = past_name ts >>= λ n. past_symbol s.LeftParen n.1 >>= λ rest. listed param (past_end until.Paren) rest >>= λ ps. result_type ps.1 >>= λ ty. body ty.1 >>= λ x. Some (f.def_header n.0 ps.0 ty.0 x)

@@ -7,13 +7,14 @@ use Rattle.gp_types.specs.Types as types
 use Rattle.gp_types.specs.Types.{tys_of}
 use Rattle.gp_types.specs.View.{ty_view}
 use Rattle.gp_types.specs.declared.ty.Ty as declared_ty
-use Rattle.gp_locals.specs.Callee.{Callee, callee_of, takes_tag}
+use Rattle.gp_locals.specs.Callee.{Callee, outside, takes_tag}
+use Rattle.gp_locals.specs.Environment.{type_of}
 use Rattle.gp_locals.specs.Tag.{is_tag}
 use Rattle.gp_typing.specs.declared.context.Context.{Context}
-use Rattle.gp_typing.specs.declared.fault.TypeFault.TheVariants.{Mismatch, UnknownName}
+use Rattle.gp_typing.specs.declared.fault.TypeFault.TheVariants.{Mismatch}
 use Rattle.gp_typing.specs.declared.typed.TypedExpr as declared_expr
 use Rattle.gp_typing.specs.declared.value.Values as declared_row
-use Rattle.gp_typing.specs.Checks.{Checked, ◌>>=◌, check, found}
+use Rattle.gp_typing.specs.Checks.{Checked, ◌>>=◌, check}
 use Rattle.gp_typing.specs.Expressions as spec
 use Rattle.gp_typing.specs.Expressions.{Arguments, arguments_of, called}
 use Rattle.gp_typing.specs.code.ExpressionView.{values_view}
@@ -22,8 +23,9 @@ use Rattle.gp_typing.specs.Typed.{TypedExpression, TypedExpressions}
 use Rattle.gp_typing.specs.View.{expressions_view}
 
 -- what a call of this name calls in this context
-abbrev pub callee_in : Context → List ℕ → Option Callee
-callee_in context name = callee_of (known_in context.scope.now) context.names.now name
+abbrev pub callee_in : Context → List ℕ → Checked Callee
+callee_in context name =
+    spec.callee_at context.line (type_of context.names.now context.environment.now name) (outside (known_in context.scope.now) name)
 
 abbrev pub arguments_view : Option (List ℕ) → declared_row.Values → Arguments
 arguments_view tag values = record { tag = tag; values = values_view values }
@@ -48,6 +50,6 @@ tag_of line tagged es = Ok None
 -- a call of this name with these arguments in this context
 abbrev pub call_in : Context → List ℕ → Expressions → Checked TypedExpression
 call_in context name es =
-    found (callee_in context name) (UnknownName context.line)
+    callee_in context name
     >>= λ callee. arguments_of (known_in context.scope.now) context.names.now context.environment.now context.line (takes_tag callee) es
     >>= λ arguments. called context.line name callee arguments

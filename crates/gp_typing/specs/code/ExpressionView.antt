@@ -1,7 +1,9 @@
 -- The data that values in memory are, and the types of expressions in a context in memory.
-use Rattle.std.specs.Prelude.{map, Some}
+use Rattle.std.specs.Prelude.{ℕ, List, map, Some}
+use Rattle.gp_locals.specs.Environment.{type_of}
+use Rattle.gp_tree.specs.declared.place.Place.{Place}
 use Rattle.gp_tree.specs.Expression.{Expression, Expressions}
-use Rattle.gp_types.specs.Types.{tys_of}
+use Rattle.gp_types.specs.Types.{Ty, tys_of}
 use Rattle.gp_types.specs.View.{ty_view}
 use Rattle.gp_typing.specs.declared.context.Context.{Context}
 use Rattle.gp_typing.specs.declared.value.Value as declared
@@ -30,3 +32,12 @@ valued_in context x = valued context.line (typed_in context x)
 -- expressions in this context that all stand where values are needed
 abbrev pub values_in : Context → Expressions → Checked Values
 values_in context xs = spec.values_of (known_in context.scope.now) context.names.now context.environment.now context.line xs
+
+-- the type of a name in this context
+abbrev pub name_in : Context → List ℕ → Checked Ty
+name_in context name =
+    spec.named_type context.line (type_of context.names.now context.environment.now name) ((known_in context.scope.now).signature_of name)
+
+-- the type of a place in this context
+abbrev pub type_in : Context → Place → Checked Ty
+type_in context place = spec.place_type (known_in context.scope.now) context.names.now context.environment.now context.line place

@@ -8,12 +8,19 @@ use Rattle.gp_types.specs.Same.{same_type}
 use Rattle.gp_typing.specs.declared.fault.TypeFault.TheVariants.{Mismatch}
 use Rattle.gp_typing.specs.Checks.{Checked, ◌>>=◌, check, found}
 use Rattle.gp_locals.specs.Environment.{Names, Environment}
+use Rattle.gp_scope.specs.Known.{Known}
+use Rattle.gp_scope.specs.ScopeView.{known_in}
+use Rattle.gp_typing.specs.declared.context.Context.{Context}
 use Rattle.gp_typing.specs.Expressions.{Value, has_type, is_int, is_bool, answer_type, place_type}
 use Rattle.gp_typing.specs.Typed as typed
 use Rattle.gp_typing.specs.Typed.{TypedExpression}
 
-abbrev pub place_of : Names → Environment → LineNo → Place → Checked TypedExpression
-place_of names e line p = place_type names e line p >>= λ ty. has_type ty (typed.place p)
+abbrev pub place_of : Known → Names → Environment → LineNo → Place → Checked TypedExpression
+place_of known names e line p = place_type known names e line p >>= λ ty. has_type ty (typed.place p)
+
+-- a place in this context
+abbrev pub place_in : Context → Place → Checked TypedExpression
+place_in context p = place_of (known_in context.scope.now) context.names.now context.environment.now context.line p
 
 abbrev pub minus_of : LineNo → Value → Checked TypedExpression
 minus_of line x = check (is_int x.ty) (Mismatch line) >>= λ _. has_type types.Int (typed.minus x.tree)

@@ -1,5 +1,5 @@
-use Rattle.std.proofs.Common.{◌≡◌, ◌∙◌, ◌+◌, ap, sym, map, option_map, arith, pos}
-use Rattle.gp_base.specs.Run.{Returned, go_on, ◌>>=◌, or_stuck}
+use Rattle.std.proofs.Common.{◌≡◌, ◌∙◌, ◌+◌, refl, ap, sym, map, option_map, drop, arith, pos}
+use Rattle.gp_base.specs.Run.{Returned, ret, go_on, ◌>>=◌, or_stuck}
 use Rattle.gp_tree.specs.Expression as expr
 use Rattle.gp_tree.specs.Expression.{expression, expressions}
 use Rattle.gp_tree.specs.Program.{program_items, function_definition}
@@ -7,11 +7,13 @@ use Rattle.gp_tree.specs.Statement.{statement, statements}
 use Rattle.gp_types.specs.Signature.{parameter_view, signature_view, parameter_names}
 use Rattle.gp_locals.specs.Locals.{locals}
 use Rattle.gp_scope.specs.ScopeView.{known_in}
-use Rattle.gp_evaluator.specs.Evaluation.{completion_view, state_of, frame_view, rest_of, rest_for, source_in, expression_run, statement_run, block_run, for_run}
+use Rattle.gp_evaluator.specs.Evaluation.{completion_view, state_of, frame_view, rest_of, rest_for, source_in, resolved_view, expression_run, values_run, statement_run, block_run, for_run}
+use Rattle.gp_meaning.specs.Calls.{called, put_back_each}
 use Rattle.gp_meaning.specs.Meaning.{executed_each, ends_by}
 use Rattle.gp_meaning.specs.State.{set, no_variables, set_each, without_variables}
 use Rattle.gp_meaning.specs.Value.{number_of}
 use Rattle.gp_evaluator.specs.View.{value_view, variables_view, world_view, called_view, state}
+use Rattle.gp_evaluator.proofs.CallSteps.{call_goes_back}
 use Rattle.gp_evaluator.proofs.Falls.{measure, largest, row_size, block_size, falls, falls_turn, turn_less, item_falls, statement_falls, body_within}
 use Rattle.gp_evaluator.proofs.Goes.{call_goes, for_goes}
 use Rattle.gp_evaluator.proofs.Loops.{while_round, for_body_err, for_left, for_no_turn, for_round}
@@ -76,8 +78,8 @@ pub evaluate_expr-returns-in-Call-clause-run : goal.evaluate_expr-returns-in-Cal
 evaluate_expr-returns-in-Call-clause-run t c =
     let s = state_of c.args.variables.now c.args.world.now in
     ends (option_map value_view) c.evaluate_call.result (state_of c.evaluate_call.new.variables c.evaluate_call.new.world) (expression_run c.args.frame.now (expression c.args.expr.now) s)
-    (expression_run c.args.frame.now (expr.call c.as_str.result.now (expressions c.deref-in-Call.result.now)) s)
-    (call_goes (frame_view c.args.frame.now) (rest_for c.args.frame.now).call s c.args.expr.now c.in-Call.name c.as_str.result.now c.in-Call.arguments c.deref-in-Call.result.now c.in-Call.is c.as_str.ensures c.deref-in-Call.ensures.value)
+    (expression_run c.args.frame.now (expr.call c.in-Call.name (expressions c.deref-in-Call.result.now)) s)
+    (call_goes (frame_view c.args.frame.now) (rest_for c.args.frame.now).call s c.args.expr.now c.in-Call.name c.in-Call.name c.in-Call.arguments c.deref-in-Call.result.now c.in-Call.is refl c.deref-in-Call.ensures.value)
     c.evaluate_call.ensures.run
 
 pub evaluate_value-evaluate_expr-requires : goal.evaluate_value-evaluate_expr-requires
@@ -99,6 +101,25 @@ pub evaluate_call-call-requires : goal.evaluate_call-call-requires
 evaluate_call-call-requires t c =
     let d : measure (program_items c.args.frame.now.items.now) c.args.world.now.turns (row_size (expressions c.args.arguments.now) + 1) ≡ t = assumption in
     (falls _ _ _ _ _ _ d c.in_ok-values.ensures.fewer (omega arith), tt)
+
+pub evaluate_call-returns-in_err-put_back_each-clause-run : goal.evaluate_call-returns-in_err-put_back_each-clause-run
+evaluate_call-returns-in_err-put_back_each-clause-run t c =
+    let f = c.args.frame.now in
+    let es = c.args.arguments.now in
+    let s = state_of c.args.variables.now c.args.world.now in
+    let u = state_of c.evaluate_each.new.variables c.evaluate_each.new.world in
+    let w = world_view c.call.new.world in
+    let vs = map value_view c.in_ok-values.values.items in
+    let r = resolved_view c.in_ok-name.field-0 in
+    let answer = option_map value_view c.in_ok-called.called.answer in
+    let finals = map (option_map value_view) c.in_ok-called.called.finals.items in
+    let given = ap (λ n. values_run f (expressions (drop n es)) s) (sym c.count_tags.ensures) ∙ c.in_ok-values.ensures.run in
+    let went = ap (λ n. called (rest_for f).call r.callee n c.in_ok-tag.tag vs u.world) (sym c.as_str.ensures) ∙ c.in_ok-called.ensures.run in
+    let goes = call_goes_back (frame_view f) (rest_for f).call c.args.name.now es s u r c.in_ok-tag.tag vs (record { answer = answer; finals = finals }) w c.in_ok-name.ensures c.in_ok-tag.ensures given went in
+    exits (option_map value_view) c.from_residual-in_err-put_back_each.result (state_of c.put_back_each.new.variables c.call.new.world) (expression_run f (expr.call c.args.name.now (expressions es)) s) c.in_err-put_back_each.field-0.0 c.from_residual-in_err-put_back_each.ensures.1
+    (λ n. goes
+    ∙ ap (λ os. go_on (put_back_each f.names.now (expressions es) (map (option_map value_view) os) (state u.variables w)) (λ _. ret answer)) (sym c.deref.ensures.value)
+    ∙ ap (λ o. go_on o (λ _. ret answer)) (c.in_err-put_back_each.ensures w n))
 
 pub call-run_function-requires : goal.call-run_function-requires
 call-run_function-requires t c =

@@ -6,9 +6,9 @@ use Rattle.gp_types.specs.View.{ty_view}
 use Rattle.gp_typing.specs.code.CallView.{call_in, callee_in, arguments_view, tag_of}
 use Rattle.gp_locals.specs.CalleeView.{callee_view}
 use Rattle.gp_typing.specs.Checks.{Answers}
-use Rattle.gp_typing.specs.code.Operations.{place_of, minus_of, negation_of, binary_of, both_of, either_of, choice_of}
+use Rattle.gp_typing.specs.code.Operations.{place_in, minus_of, negation_of, binary_of, both_of, either_of, choice_of}
 use Rattle.gp_typing.specs.View.{expression_view}
-use Rattle.gp_typing.proofs.Binds.{bind-err, bind-ok, exits, ends, one-err, one-ok, two-err, two-err-2, two-ok, three-err, three-err-2, three-err-3, three-ok, number-typed, boolean-typed, text-typed, place-typed, minus-typed, negation-typed, binary-typed, both-typed, either-typed, choice-typed, tuple-typed, call-typed, call-no-values, call-called, values-step, values-err, values-end}
+use Rattle.gp_typing.proofs.Binds.{bind-err, bind-ok, exits, ends, one-err, one-ok, two-err, two-err-2, two-ok, three-err, three-err-2, three-err-3, three-ok, number-typed, boolean-typed, text-typed, place-typed, minus-typed, negation-typed, binary-typed, both-typed, either-typed, choice-typed, tuple-typed, call-typed, call-none, call-no-values, call-called, values-step, values-err, values-end}
 use Rattle.gp_typing.proofs.expressions.+typing.Goals as goal
 
 pub type_expr-returns-in-Int : goal.type_expr-returns-in-Int
@@ -25,7 +25,7 @@ type_expr-returns-in-Text t c =
 
 pub type_expr-returns-in-Place : goal.type_expr-returns-in-Place
 type_expr-returns-in-Place t c =
-    ends expression_view c.type_place.result (typed_in c.args.context.now (expression c.args.expr.now)) (place_of c.args.context.now.names.now c.args.context.now.environment.now c.args.context.now.line c.in-Place.place)
+    ends expression_view c.type_place.result (typed_in c.args.context.now (expression c.args.expr.now)) (place_in c.args.context.now c.in-Place.place)
     (place-typed c.args.context.now c.args.expr.now c.in-Place.place c.in-Place.is) c.type_place.ensures
 
 pub type_expr-returns-in_err-type_value-in-Neg : goal.type_expr-returns-in_err-type_value-in-Neg
@@ -155,15 +155,15 @@ type_expr-returns-in-Call t c =
 pub type_call-returns-in_err-values : goal.type_call-returns-in_err-values
 type_call-returns-in_err-values t c =
     exits expression_view c.from_residual-in_err-values.result (call_in c.args.context.now c.args.name.now (expressions c.args.arguments.now)) c.in_err-values.field-0.0 c.from_residual-in_err-values.ensures.1
-    (λ n. call-no-values c.args.context.now c.args.name.now c.args.arguments.now (callee_view c.in-Some.callee) (c.in-Some.ensures ∙ ap (callee_in c.args.context.now) c.as_str.ensures)
+    (λ n. call-no-values c.args.context.now c.args.name.now c.args.arguments.now (callee_view c.in_ok-callee.callee) (ap (callee_in c.args.context.now) (sym c.as_str.ensures) ∙ c.in_ok-callee.ensures)
     c.in_ok-tag.tag
     (ap (λ b. tag_of c.args.context.now.line b (expressions c.args.arguments.now)) (sym c.takes_tag.ensures) ∙ c.in_ok-tag.ensures)
     c.in_err-values.field-0.0 (ap (λ n. values_in c.args.context.now (expressions (drop n c.args.arguments.now))) (sym c.count_tags.ensures) ∙ c.in_err-values.ensures n))
 
 pub type_call-returns : goal.type_call-returns
 type_call-returns t c =
-    ends expression_view c.call.result (call_in c.args.context.now c.args.name.now (expressions c.args.arguments.now)) (spec.called c.args.context.now.line c.args.name.now (callee_view c.in-Some.callee) (arguments_view c.in_ok-tag.tag c.in_ok-values.values))
-    (call-called c.args.context.now c.args.name.now c.args.arguments.now (callee_view c.in-Some.callee) (c.in-Some.ensures ∙ ap (callee_in c.args.context.now) c.as_str.ensures)
+    ends expression_view c.call.result (call_in c.args.context.now c.args.name.now (expressions c.args.arguments.now)) (spec.called c.args.context.now.line c.args.name.now (callee_view c.in_ok-callee.callee) (arguments_view c.in_ok-tag.tag c.in_ok-values.values))
+    (call-called c.args.context.now c.args.name.now c.args.arguments.now (callee_view c.in_ok-callee.callee) (ap (callee_in c.args.context.now) (sym c.as_str.ensures) ∙ c.in_ok-callee.ensures)
     c.in_ok-tag.tag
     (ap (λ b. tag_of c.args.context.now.line b (expressions c.args.arguments.now)) (sym c.takes_tag.ensures) ∙ c.in_ok-tag.ensures)
     (values_view c.in_ok-values.values) (ap (λ n. values_in c.args.context.now (expressions (drop n c.args.arguments.now))) (sym c.count_tags.ensures) ∙ c.in_ok-values.ensures))
@@ -187,3 +187,8 @@ pub type_values-returns : goal.type_values-returns
 type_values-returns t c =
     values-end c.args.context.now c.args.exprs.now c.loop-i.i (map expression_view c.loop-i.values.exprs.items) (map ty_view c.loop-i.values.types.items)
     (values_in c.args.context.now (expressions (drop c.args.first c.args.exprs.now))) c.loop-i.invariant c.loop-i-test.false
+
+pub type_call-returns-in_err-callee : goal.type_call-returns-in_err-callee
+type_call-returns-in_err-callee t c =
+    exits expression_view c.from_residual.result (call_in c.args.context.now c.args.name.now (expressions c.args.arguments.now)) c.in_err-callee.field-0.0 c.from_residual.ensures.1
+    (λ n. call-none c.args.context.now c.args.name.now c.args.arguments.now c.in_err-callee.field-0.0 (ap (callee_in c.args.context.now) (sym c.as_str.ensures) ∙ c.in_err-callee.ensures n))

@@ -113,9 +113,15 @@ def best(act):
     return min(times)
 
 
+def doubled(before, now):
+    """How many times the time and the memory of a text are those of another, were it just twice as long."""
+    longer = now[2] / before[2] / 2
+    return [now[k] / before[k] / longer for k in range(2)]
+
+
 def compare_texts():
     """The shapes whose time or memory grows too much, and those on which CPython's `compile` is faster."""
-    print("       text    bytes  seconds  ast.parse  compile  ratio    MiB  growth of time and memory")
+    print("       text    bytes  seconds  ast.parse  compile  ratio    MiB  time and memory at twice the size")
     grown, slower = [], []
     for shape in (functions, lines, names, structs, nested, expressions, imports, unchanged, long_field, deep_tuples):
         before = None
@@ -124,14 +130,16 @@ def compare_texts():
             took, peak = answer_of(text, [], "passes")
             parsed = best(lambda: ast.parse(text))
             compiled = best(lambda: compile(text, "text", "exec"))
-            growth = "" if before is None else f"{took / before[0]:6.2f} {peak / before[1]:6.2f}"
+            now = took, peak, len(text)
+            grows = [] if before is None else doubled(before, now)
+            growth = " ".join(f"{it:6.2f}" for it in grows)
             row = f"{took:7.3f}  {parsed:9.3f}  {compiled:7.3f}  {took / compiled:5.2f}  {peak:5.0f}  {growth}"
             print(f"{shape.__name__:>11} {len(text):8}  {row}")
-            if before is not None and max(took / before[0], peak / before[1]) > GROWTH:
+            if max(grows, default=0) > GROWTH:
                 grown.append(f"{shape.__name__} of {len(text)} bytes")
             if took > compiled:
                 slower.append(f"{shape.__name__} of {len(text)} bytes")
-            before = took, peak
+            before = now
     return grown, slower
 
 

@@ -5,9 +5,9 @@
 # and GNU time.
 #
 # For each text it prints the best wall time of three in seconds and CPython's, their ratio, and the peak memory in MiB. Each
-# text stands there at 32, 64 and 128 KiB, and the last columns are how much more time and memory the larger one takes: the
-# script fails where that is more than 2.2 times as much, and where CPython's `compile` is faster. Besides texts of many lines,
-# names, functions, structs, branches, sums and imports there are two of one long name: a struct whose field has it, in many
-# tuples of the struct and in tuples nested deep.
+# text stands there at about 32, 64 and 128 KiB, and the last columns are how many times the time and the memory of the shorter
+# one it takes, were it just twice as long: the script fails where that is more than 2.2, and where CPython's `compile` is
+# faster. Besides texts of many lines, names, functions, structs, branches, sums and imports there are two of one long name: a
+# struct whose field has it, in many tuples of the struct and in tuples nested deep.
 set -eu
 python3 "$(dirname "${BASH_SOURCE[0]}")/front.py"
